@@ -31,7 +31,7 @@ pub record Arena : Type 0 where
 abbrev pub size : Arena → ℕ
 size a = length (a .positions)
 
--- what `positionAt` gives for a number that is no position: it is never used for one
+-- what `positionAt` gives for a number that is no position: nobody's to steer, and not unsafe
 abbrev pub nowhere : Position
 nowhere = record { owner = environment; mark = 0 }
 
