@@ -13,3 +13,8 @@ pub mod Journal
 pub mod Table
 pub mod Best
 pub mod Fault
+pub mod ValueLaws
+pub mod MoveTests
+pub mod TableLaws
+pub mod RoundTables
+pub mod Stable
