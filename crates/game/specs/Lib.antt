@@ -18,3 +18,4 @@ pub mod MoveTests
 pub mod TableLaws
 pub mod RoundTables
 pub mod Stable
+pub mod TableIsRounds

@@ -75,8 +75,8 @@ some-of p (x ∷ ms) m mem h = go (List·Memᴰ·cases-cons mem) (λ mem′. som
     go (inl e) below = here (p x) (subst (λ (y : Move). T (p y)) e h)
     go (inr mem′) below = pass (p x) (below mem′)
 
--- Tests on the targets of the moves from v of one cost c
-module _ (c v : ℕ) (q : ℕ → Bool) (ms : List Move) where
+-- the moves from v of one cost c
+module _ (c v : ℕ) where
   abbrev target : ℕ → Move
   target w = record { cost = c; from = v; to = w }
 
@@ -92,16 +92,26 @@ module _ (c v : ℕ) (q : ℕ → Bool) (ms : List Move) where
   target-costs : (w : ℕ) → T (costs (target w))
   target-costs w = and-both (eqb c c) (eqb v v) (eqb-refl c) (eqb-refl v)
 
-  some-target : T (someMove (λ m. costs m && q (m .to)) ms) → (w : ℕ) × List·Memᴰ (target w) ms × T (q w)
+pub meant-move : (v : ℕ) (m : Move) → T (meantFrom v m) → meantMove v (m .to) ≡ m
+unfolding meantFrom
+meant-move v m h = is-target 0 v m h
+
+pub meant-from : (v w : ℕ) → T (meantFrom v (meantMove v w))
+unfolding meantFrom
+meant-from v w = target-costs 0 v w
+
+-- tests on their targets
+module _ (c v : ℕ) (q : ℕ → Bool) (ms : List Move) where
+  some-target : T (someMove (λ m. costs c v m && q (m .to)) ms) → (w : ℕ) × List·Memᴰ (target c v w) ms × T (q w)
   some-target h =
-      let r = some-found (λ m. costs m && q (m .to)) ms h in
+      let r = some-found (λ m. costs c v m && q (m .to)) ms h in
       let m : Move = r .0 in
-      (m .to, Memᴰ·cast (is-target m (and-left (costs m) (q (m .to)) (r .2))) (r .1), and-right (costs m) (q (m .to)) (r .2))
+      (m .to, Memᴰ·cast (is-target c v m (and-left (costs c v m) (q (m .to)) (r .2))) (r .1), and-right (costs c v m) (q (m .to)) (r .2))
 
-  of-some-target : (w : ℕ) → List·Memᴰ (target w) ms → T (q w) → T (someMove (λ m. costs m && q (m .to)) ms)
-  of-some-target w mem h = some-of (λ m. costs m && q (m .to)) ms (target w) mem (and-both (costs (target w)) (q w) (target-costs w) h)
+  of-some-target : (w : ℕ) → List·Memᴰ (target c v w) ms → T (q w) → T (someMove (λ m. costs c v m && q (m .to)) ms)
+  of-some-target w mem h = some-of (λ m. costs c v m && q (m .to)) ms (target c v w) mem (and-both (costs c v (target c v w)) (q w) (target-costs c v w) h)
 
-  every-target : T (everyMove (λ m. not (costs m) || q (m .to)) ms) → (w : ℕ) → List·Memᴰ (target w) ms → T (q w)
+  every-target : T (everyMove (λ m. not (costs c v m) || q (m .to)) ms) → (w : ℕ) → List·Memᴰ (target c v w) ms → T (q w)
   unfolding everyMove
   every-target h w mem = go (passes-or-fails (q w))
     where
@@ -111,21 +121,21 @@ module _ (c v : ℕ) (q : ℕ → Bool) (ms : List Move) where
 
       go : T (q w) ⊎ T (not (q w)) → T (q w)
       go (inl t) = t
-      go (inr f) = absurd (T-not (someMove (λ m. not (not (costs m) || q (m .to))) ms) h (some-of (λ m. not (not (costs m) || q (m .to))) ms (target w) mem (counts (costs (target w)) (target-costs w) f)))
+      go (inr f) = absurd (T-not (someMove (λ m. not (not (costs c v m) || q (m .to))) ms) h (some-of (λ m. not (not (costs c v m) || q (m .to))) ms (target c v w) mem (counts (costs c v (target c v w)) (target-costs c v w) f)))
 
-  of-every-target : ((w : ℕ) → List·Memᴰ (target w) ms → T (q w)) → T (everyMove (λ m. not (costs m) || q (m .to)) ms)
+  of-every-target : ((w : ℕ) → List·Memᴰ (target c v w) ms → T (q w)) → T (everyMove (λ m. not (costs c v m) || q (m .to)) ms)
   unfolding everyMove
   of-every-target all =
       not-T (someMove fails ms) λ t.
       let r = some-found fails ms t in
       let m : Move = r .0 in
-      go m (costs m) refl (r .1) (r .2)
+      go m (costs c v m) refl (r .1) (r .2)
     where
       fails : Move → Bool
-      fails m = not (not (costs m) || q (m .to))
+      fails m = not (not (costs c v m) || q (m .to))
 
-      go : (m : Move) (b : Bool) → costs m ≡ b → List·Memᴰ m ms → T (not (not b || q (m .to))) → ⊥
-      go m true e mem f = T-not (q (m .to)) f (all (m .to) (Memᴰ·cast (is-target m (subst T (sym e) tt)) mem))
+      go : (m : Move) (b : Bool) → costs c v m ≡ b → List·Memᴰ m ms → T (not (not b || q (m .to))) → ⊥
+      go m true e mem f = T-not (q (m .to)) f (all (m .to) (Memᴰ·cast (is-target c v m (subst T (sym e) tt)) mem))
       go m false e mem f = f
 
 -- some meant target, each meant target, some disturbance's and each disturbance's target passes the test

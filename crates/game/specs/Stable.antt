@@ -4,14 +4,14 @@ use Prim.Native.Nat.{ℕ, zero, suc, _+_, _≤_, _<_}
 use native.Mathlib.Decide.{le-ind, decLe}
 use native.Mathlib.Omega.{arith}
 use mathlib.Core.Path.{_≡_, refl, sym, _∙_, subst}
-use mathlib.Core.Logic.{_⊎_, inl, inr}
+use mathlib.Core.Logic.{_⊎_, inl, inr, _↔_}
 use lib.ListN.{length}
 use lib.Dec.{T, eqb→eq}
 use Rattle.game.specs.Arena.{Arena, size}
 use Rattle.game.specs.Table.{Placement, unplaced, placed, Table, placementAt, place, hasValue, ready, begins, tableAfter, tableBefore, table}
 use Rattle.game.specs.MoveTests.{some-disturbance}
-use Rattle.game.specs.TableLaws.{Takes, place-none, place-none-or-fewer, unchanged-takes-none, freeCount, free-count-bound, none-free}
-use Rattle.game.specs.RoundTables.{after-length, before-length, before-from}
+use Rattle.game.specs.TableLaws.{Extends, extends-refl, Takes, place-none, place-none-or-fewer, unchanged-takes-none, freeCount, free-count-bound, none-free}
+use Rattle.game.specs.RoundTables.{RoundTakes, after-length, after-later, before-length, before-later, before-from, taken-is-placed}
 
 -- nobody is free and ready
 abbrev pub Settled : Arena → Table → Type 0
@@ -171,3 +171,26 @@ module _ (a : Arena) where
 
   pub table-settled : Settled a (table a)
   table-settled = subst (Settled a) (values-end (suc (size a)) (omega arith)) (before-settled (size a))
+
+  -- every table of a round is extended by the next value's first, and by the last of all
+  pub after-before : (k s : ℕ) → Extends (tableAfter a (tableBefore a k) k s) (tableBefore a (suc k))
+  unfolding tableBefore
+  after-before k s = go (decLe s (size a))
+    where
+      go : Dec (s ≤ size a) → Extends (tableAfter a (tableBefore a k) k s) (tableAfter a (tableBefore a k) k (size a))
+      go (yes h) = after-later a (tableBefore a k) k s (size a) h
+      go (no g) =
+          subst (Extends (tableAfter a (tableBefore a k) k s))
+          (settled-stays a (tableBefore a k) k (size a) s (omega arith) (value-settles a (tableBefore a k) k (before-length a k)))
+          (extends-refl (tableAfter a (tableBefore a k) k s))
+
+  pub before-table : (k : ℕ) → Extends (tableBefore a k) (table a)
+  before-table k = subst (Extends (tableBefore a k)) (values-end (k + size a) (omega arith)) (before-later a k (k + size a) (omega arith))
+
+  -- The table has v at (k, s) exactly when round (k, s) takes v.
+  pub table-has-the-taken : (k s v : ℕ) → RoundTakes a (tableBefore a k) k s v ↔ (placementAt (table a) v ≡ placed k s)
+  unfolding table
+  table-has-the-taken k s v = (
+    λ t. before-table (suc k) .keeps v k s (after-before k s .keeps v k s (taken-is-placed a (tableBefore a k) k s v t)),
+    λ e. before-from a (size a) v k s e .takes,
+  )
