@@ -15,7 +15,10 @@ pub mod Best
 pub mod Fault
 pub mod ValueLaws
 pub mod MoveTests
+pub mod PlacementLaws
 pub mod TableLaws
 pub mod RoundTables
 pub mod Stable
 pub mod TableIsRounds
+pub mod SummaryLaws
+pub mod RoundBounds

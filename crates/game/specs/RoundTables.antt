@@ -9,7 +9,8 @@ use mathlib.Core.Bool.{Bool}
 use lib.ListN.{length, length-replicate, getD-replicate, replicate, List·getD-eq-default}
 use Rattle.game.specs.Arena.{Arena, size}
 use Rattle.game.specs.Table.{unplaced, placed, Table, placementAt, ready, begins, tableAfter, tableBefore}
-use Rattle.game.specs.TableLaws.{Extends, extends-refl, extends-trans, Takes, place-length, place-extends, place-leaves, place-takes, is-not-placed, is-placed}
+use Rattle.game.specs.PlacementLaws.{is-not-placed, is-placed}
+use Rattle.game.specs.TableLaws.{Extends, extends-refl, extends-trans, Takes, place-length, place-extends, place-leaves, place-takes}
 
 -- Round (k, s), where `start` is the table before round (k, 0): the table that it meets, and its test
 abbrev pub tableFor : Arena → Table → ℕ → ℕ → Table

@@ -11,7 +11,8 @@ use Rattle.game.specs.Arena.{Arena, Owner, controller, environment, Well
 use Rattle.game.specs.Rounds.{Positions, JoinsAs, Joins, Level, PlacedBy, JoinsIn, level, Round, NeverPlaced}
 use Rattle.game.specs.Table.{Placement, unplaced, placed, Table, placementAt, isPlaced, hasValue, someMove, meantFrom, place, readyAs, ready, begins, tableAfter, tableBefore, table}
 use Rattle.game.specs.MoveTests.{passes-or-fails, some-meant, some-disturbance}
-use Rattle.game.specs.TableLaws.{Extends, Takes, is-placed, is-not-placed, placed-or-not, extends-placed, place-extends, place-takes, place-leaves}
+use Rattle.game.specs.PlacementLaws.{is-placed, is-not-placed, placed-or-not}
+use Rattle.game.specs.TableLaws.{Extends, Takes, extends-placed, place-extends, place-takes, place-leaves}
 use Rattle.game.specs.RoundTables.{RoundTakes, tableFor, testFor, after-length, before-length, before-all, before-from, taken-is-placed}
 use Rattle.game.specs.Stable.{after-before, table-has-the-taken}
 

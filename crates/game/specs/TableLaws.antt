@@ -12,26 +12,8 @@ use mathlib.Core.List.{List, [], _∷_}
 use lib.ListN.{length, List·getD-eq-default}
 use lib.Seq.{ext-getD}
 use lib.Dec.{T}
+use Rattle.game.specs.PlacementLaws.{is-placed, is-not-placed, placed-where}
 use Rattle.game.specs.Table.{Placement, unplaced, placed, Table, placementAt, isPlaced, place}
-
-pub is-placed : {x : Placement} {k s : ℕ} → x ≡ placed k s → T (isPlaced x)
-unfolding isPlaced
-is-placed e = subst (λ (y : Placement). T (isPlaced y)) (sym e) tt
-
-pub is-not-placed : {x : Placement} → x ≡ unplaced → T (isPlaced x) → ⊥
-unfolding isPlaced
-is-not-placed e h = subst (λ (y : Placement). T (isPlaced y)) e h
-
--- where it is placed; and that it is not
-pub placed-where : (x : Placement) → T (isPlaced x) → (k s : ℕ) × (x ≡ placed k s)
-unfolding isPlaced
-placed-where unplaced h = absurd h
-placed-where (placed k s) h = (k, s, refl)
-
-pub placed-or-not : (x : Placement) → T (isPlaced x) ⊎ (x ≡ unplaced)
-unfolding isPlaced
-placed-or-not unplaced = inr refl
-placed-or-not (placed k s) = inl tt
 
 -- a placed position is a position
 pub placed-inside : (t : Table) (v : ℕ) → T (isPlaced (placementAt t v)) → v < length t
