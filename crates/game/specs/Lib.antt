@@ -22,3 +22,4 @@ pub mod Stable
 pub mod TableIsRounds
 pub mod SummaryLaws
 pub mod RoundBounds
+pub mod BestLaws

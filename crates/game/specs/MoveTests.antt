@@ -34,13 +34,13 @@ pub or-right : (p q : Bool) → T q → T (p || q)
 or-right true q h = tt
 or-right false q h = h
 
-pub is-true : {b : Bool} → T b → b ≡ true
-is-true {b = true} h = refl
-is-true {b = false} h = absurd h
+pub is-true : (b : Bool) → T b → b ≡ true
+is-true true h = refl
+is-true false h = absurd h
 
-pub is-false : {b : Bool} → T (not b) → b ≡ false
-is-false {b = true} h = absurd h
-is-false {b = false} h = refl
+pub is-false : (b : Bool) → T (not b) → b ≡ false
+is-false true h = absurd h
+is-false false h = refl
 
 -- a test passes or fails
 pub passes-or-fails : (b : Bool) → T b ⊎ T (not b)
