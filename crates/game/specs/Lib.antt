@@ -13,3 +13,4 @@ pub mod Journal
 pub mod Table
 pub mod Best
 pub mod Fault
+pub mod ValueLaws
