@@ -14,3 +14,8 @@ pub mod Table
 pub mod Best
 pub mod Fault
 pub mod ValueLaws
+pub mod PlayLaws
+pub mod Bounds
+pub mod Holding
+pub mod Ruin
+pub mod Certified

@@ -151,6 +151,18 @@ pub ≼-split : (x y : Value) → x ≼ y → (x ≺ y) ⊎ (x ≡ y)
     go (inl r) = inr (≼antisym x y h r)
     go (inr r) = inl r
 
+-- below k + 1 is at most k, and what is smaller still is below k
+pub ≺-suc : (x : Value) (k : ℕ) → x ≺ fin (suc k) → x ≼ fin k
+unfolding _≺_ _≼_
+≺-suc (fin j) k h = omega arith
+≺-suc ever k h = absurd h
+
+pub ≺-below-suc : (x y : Value) (k : ℕ) → x ≺ y → y ≺ fin (suc k) → x ≺ fin k
+unfolding _≺_
+≺-below-suc (fin i) (fin j) k p q = omega arith
+≺-below-suc (fin i) ever k p q = absurd q
+≺-below-suc ever y k p q = absurd p
+
 -- decisions
 pub decideV : (x y : Value) → Dec (x ≡ y)
 decideV (fin j) (fin k) = go (ℕ-discrete j k)
@@ -210,6 +222,12 @@ pub ⊕below : (x : Value) (c k : ℕ) → x ⊕ c ≼ fin k → (j : ℕ) × (x
 unfolding _≼_ _⊕_
 ⊕below (fin j) c k h = (j, refl, h)
 ⊕below ever c k h = absurd h
+
+-- adding something to a part of a finite sum
+pub ⊕≺ : (x : Value) (c k : ℕ) → 0 < c → x ⊕ c ≼ fin k → x ≺ fin k
+unfolding _≼_ _≺_ _⊕_
+⊕≺ (fin j) c k p h = omega arith
+⊕≺ ever c k p h = absurd h
 
 -- The certificate's orders are document 01's. "At least this value less one ("ever" less one is "ever")":
 unfoldable pub lessOne : Value → Value
