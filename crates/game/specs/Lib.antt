@@ -19,3 +19,4 @@ pub mod Bounds
 pub mod Holding
 pub mod Ruin
 pub mod Certified
+pub mod Unique
