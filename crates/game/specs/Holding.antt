@@ -1,14 +1,14 @@
 -- The lower half of T3: no move of a play takes the value plus the cost so far below what it was. It is shown for one
 -- move, from the conditions at the one position that it leaves; then for every play of a controller, with any memory, that
 -- keeps the values. So such a controller is worth at least the value where it starts.
-use Prim.Native.Nat.{ℕ, _+_, _≤_, _<_}
+use Prim.Native.Nat.{ℕ, _+_}
 use native.Mathlib.Omega.{arith}
 use native.Mathlib.Nat.{zero-add}
 use mathlib.Core.Path.{_≡_, sym, subst, _∙_}
 use mathlib.Core.Logic.{_⊎_, inl, inr}
 use lib.Dec.{T}
-use Rattle.game.specs.Value.{Value, fin, ever, _≼_, _≺_, _⊕_}
-use Rattle.game.specs.Arena.{Arena, Owner, controller, environment, size, ownerAt, unsafe, Meant, Disturbance, WellFormed}
+use Rattle.game.specs.Value.{Value, fin, _≼_, _≺_, _⊕_}
+use Rattle.game.specs.Arena.{Arena, Owner, controller, environment, ownerAt, unsafe, Meant, Disturbance, WellFormed}
 use Rattle.game.specs.Play.{Trail, still, meant, disturbed, last, cost, disturbanceCost, Controller, Allows, Play, Unsafe, LegalAs, Legal, positional, targetOf}
 use Rattle.game.specs.Certificate.{CertifiedAt, Certificate, HoldingAs}
 use Rattle.game.specs.ValueLaws.{fin≼, ≼refl, ≼trans, ≺-not-≼, ⊕zero, ⊕assoc, ⊕swap, ⊕mono, ⊕fin}

@@ -20,3 +20,4 @@ pub mod Holding
 pub mod Ruin
 pub mod Certified
 pub mod Unique
+pub mod Memory

@@ -1,14 +1,14 @@
 -- Laws of plays: a play stays inside the arena, one that stands at an unsafe position is unsafe, a disturbance costs
 -- something, and only a controller's position is disturbed.
-use Prim.Native.Nat.{ℕ, _+_, _≤_, _<_}
+use Prim.Native.Nat.{ℕ, _<_}
 use native.Mathlib.Omega.{arith}
-use mathlib.Core.Path.{_≡_, refl, sym, ap, subst}
+use mathlib.Core.Path.{_≡_, refl}
 use mathlib.Core.Logic.{_⊎_, inl, inr}
 use mathlib.Core.Bool.{Bool, true, false}
 use lib.Dec.{T}
 use Rattle.game.specs.Value.{Value}
 use Rattle.game.specs.Arena.{Arena, Owner, controller, environment, size, ownerAt, unsafe, meantMove, disturbanceMove, Meant, Disturbance, mayBeDisturbed, WellFormed}
-use Rattle.game.specs.Play.{Trail, still, meant, disturbed, last, cost, disturbanceCost, Controller, Play, Unsafe, Legal, positional, targetOf}
+use Rattle.game.specs.Play.{Trail, still, meant, disturbed, last, disturbanceCost, Controller, Play, Unsafe, Legal, positional, targetOf}
 
 -- "a disturbance, which counts one"
 pub disturbance-costs-one : (a : Arena) (v w : ℕ) → disturbanceCost a v w ≡ 1

@@ -2,7 +2,7 @@
 -- unsafe position, where the value is 0. So it costs at most the value at the start. The play is found by condition 5: each
 -- move of it is a disturbance to a smaller value, or leads to an earlier position; so the search ends, by induction on
 -- a bound of the value and, within it, on a bound of the step.
-use Prim.Native.Nat.{ℕ, zero, suc, _+_, _≤_, _<_}
+use Prim.Native.Nat.{ℕ, zero, suc, _+_, _<_}
 use native.Mathlib.Omega.{arith}
 use native.Mathlib.Nat.{zero-add}
 use mathlib.Core.Path.{_≡_, refl, sym, subst, _∙_}
@@ -11,10 +11,10 @@ use mathlib.Core.Bool.{false}
 use lib.Dec.{T}
 use Rattle.game.specs.Value.{Value, fin, ever, _≼_, _≺_, _⊕_}
 use Rattle.game.specs.Arena.{Arena, Owner, controller, environment, size, ownerAt, unsafe, Meant, Disturbance, WellFormed}
-use Rattle.game.specs.Play.{Trail, still, meant, disturbed, last, cost, disturbanceCost, Controller, Allows, Play, Unsafe}
+use Rattle.game.specs.Play.{Trail, still, meant, disturbed, last, cost, disturbanceCost, Controller, Allows, Play}
 use Rattle.game.specs.Worth.{AtMost}
-use Rattle.game.specs.Certificate.{CertifiedAt, Certificate, Earlier, RuinAs}
-use Rattle.game.specs.ValueLaws.{fin≼, ≼refl, ≡→≼, ≼trans, ≼≺trans, ≺≼trans, ≺→≼, ⊕zero, ⊕assoc, ⊕swap, ⊕mono, ⊕fin, below-is-finite, fin-is-not-ever, fin≺, ≺-suc, ≺-below-suc, ⊕≺, ⊀zero}
+use Rattle.game.specs.Certificate.{Certificate, Earlier, RuinAs}
+use Rattle.game.specs.ValueLaws.{≼refl, ≡→≼, ≼trans, ≺≼trans, ≺→≼, ⊕zero, ⊕assoc, ⊕swap, ⊕mono, ⊕fin, below-is-finite, fin-is-not-ever, fin≺, ≺-suc, ≺-below-suc, ⊕≺, ⊀zero}
 use Rattle.game.specs.PlayLaws.{by-owner, by-test, disturbance-costs, stands-unsafe, stays-inside}
 use Rattle.game.specs.Bounds.{at-most-from-play, at-most-ever}
 

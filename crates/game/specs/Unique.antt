@@ -2,13 +2,13 @@
 -- same as "the greatest worth any controller has there" (`Greatest`). All from the order of the bounds. One controller for
 -- all positions at once attains every value: `certificate-gives-worths` of Certified.
 use Prim.Native.Nat.{ℕ}
-use mathlib.Core.Path.{_≡_, sym, subst}
+use mathlib.Core.Path.{_≡_, subst}
 use Rattle.game.specs.Value.{Value, _≼_}
 use Rattle.game.specs.Arena.{Arena}
 use Rattle.game.specs.Play.{Controller}
-use Rattle.game.specs.Worth.{WorthIs, AtMost, IsValue, Greatest}
+use Rattle.game.specs.Worth.{WorthIs, IsValue, Greatest}
 use Rattle.game.specs.ValueLaws.{≼antisym}
-use Rattle.game.specs.Bounds.{AtLeast, bounds-in-order, worth-is-both-bounds, value-is-bounds}
+use Rattle.game.specs.Bounds.{bounds-in-order, worth-is-both-bounds, value-is-bounds}
 
 module _ (a : Arena) (v : ℕ) where
   pub worth-is-unique : (σ : Controller a) (x y : Value) → WorthIs a σ v x → WorthIs a σ v y → x ≡ y
