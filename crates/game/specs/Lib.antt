@@ -21,3 +21,6 @@ pub mod Ruin
 pub mod Certified
 pub mod Unique
 pub mod Memory
+pub mod Carry
+pub mod Prepend
+pub mod Optimal
