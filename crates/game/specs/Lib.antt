@@ -24,3 +24,4 @@ pub mod Memory
 pub mod Carry
 pub mod Prepend
 pub mod Optimal
+pub mod RestrictLaws
