@@ -14,6 +14,17 @@ pub mod Table
 pub mod Best
 pub mod Fault
 pub mod ValueLaws
+pub mod PlayLaws
+pub mod Bounds
+pub mod Holding
+pub mod Ruin
+pub mod Certified
+pub mod Unique
+pub mod Memory
+pub mod Carry
+pub mod Prepend
+pub mod Optimal
+pub mod RestrictLaws
 pub mod MoveTests
 pub mod PlacementLaws
 pub mod TableLaws

@@ -1,0 +1,97 @@
+-- T4: controllers exist in every well-formed arena; and "every controller" isn't only the positional ones: in a small
+-- arena there is one whose pick at a position depends on whether a disturbance led there.
+use Prim.Native.Nat.{ℕ, zero, suc, _<_}
+use native.Mathlib.Decide.{decLt}
+use native.Mathlib.Omega.{arith}
+use mathlib.Core.Path.{_≡_, refl, sym, subst}
+use mathlib.Core.List.{List, [], _∷_, List·Memᴰ, List·Memᴰ·head, List·Memᴰ·tail, List·Memᴰ·not-nil, List·Memᴰ·cases-cons}
+use mathlib.Core.Logic.{⊎-elim}
+use mathlib.Core.Bool.{Bool, true, false, cond, _&&_}
+use lib.Dec.{T, eqb, lit<}
+use Rattle.game.specs.Arena.{Arena, Move, controller, size, ownerAt, meantMove, disturbanceMove, Meant, mayBeDisturbed, WellFormed}
+use Rattle.game.specs.Play.{Trail, still, meant, disturbed, last, Controller, Play, controller-inside}
+
+-- some meant target of a position, and any number elsewhere
+someTarget : (a : Arena) → WellFormed a → (v : ℕ) → Dec (v < size a) → ℕ
+someTarget a wf v (yes inside) = wf .meant v inside .0
+someTarget a wf v (no outside) = 0
+
+some-target-is-meant : (a : Arena) (wf : WellFormed a) (v : ℕ) (d : Dec (v < size a)) → v < size a → Meant a v (someTarget a wf v d)
+unfolding someTarget
+some-target-is-meant a wf v (yes inside) l = wf .meant v inside .1
+some-target-is-meant a wf v (no outside) l = absurd (outside l)
+
+pub some-controller : (a : Arena) → WellFormed a → Controller a
+some-controller a wf =
+    record {
+      pick = λ v t. someTarget a wf (last v t) (decLt (last v t) (size a));
+      legal = λ v t own. some-target-is-meant a wf (last v t) (decLt (last v t) (size a)) (controller-inside a (last v t) own);
+    }
+
+-- two positions of the controller: 0 leads to 1 by a meant move and by a disturbance, 1 leads to both by meant moves
+unfoldable pub pair : Arena
+pair =
+    record {
+      positions = record { owner = controller; mark = 0 } ∷ record { owner = controller; mark = 0 } ∷ [];
+      moves = meantMove 0 1 ∷ disturbanceMove 0 1 ∷ meantMove 1 0 ∷ meantMove 1 1 ∷ [];
+    }
+
+-- what holds of each move in a row of moves
+abbrev OfEach : (Move → Type 0) → List Move → Type 0
+OfEach P [] = Unit {0}
+OfEach P (m ∷ ms) = P m × OfEach P ms
+
+of-each : (P : Move → Type 0) (ms : List Move) → OfEach P ms → (m : Move) → List·Memᴰ m ms → P m
+of-each P [] h m i = absurd (List·Memᴰ·not-nil i)
+of-each P (x ∷ ms) h m i = ⊎-elim (λ (e : m ≡ x). subst P (sym e) (h .0)) (λ (j : List·Memᴰ m ms). of-each P ms (h .1) m j) (List·Memᴰ·cases-cons i)
+
+-- a disturbance occurred on the trail
+wasDisturbed : Trail → Bool
+wasDisturbed still = false
+wasDisturbed (meant t w) = wasDisturbed t
+wasDisturbed (disturbed t w) = true
+
+-- the pick at u: 1, but 0 at position 1 after a disturbance
+pickAt : Bool → ℕ → ℕ
+pickAt b u = cond (b && eqb u 1) 0 1
+
+pick-at-is-meant : (b : Bool) (u : ℕ) → u < size pair → Meant pair u (pickAt b u)
+unfolding pair pickAt
+pick-at-is-meant true zero l = List·Memᴰ·head refl
+pick-at-is-meant true (suc zero) l = List·Memᴰ·tail (List·Memᴰ·tail (List·Memᴰ·head refl))
+pick-at-is-meant true (suc (suc u)) l = absurd (omega arith)
+pick-at-is-meant false zero l = List·Memᴰ·head refl
+pick-at-is-meant false (suc zero) l = List·Memᴰ·tail (List·Memᴰ·tail (List·Memᴰ·tail (List·Memᴰ·head refl)))
+pick-at-is-meant false (suc (suc u)) l = absurd (omega arith)
+
+pub pair-is-well-formed : WellFormed pair
+unfolding pair
+pair-is-well-formed =
+    record {
+      kind = of-each (λ m. m .cost < 2) (pair .moves) (lit< tt, (lit< tt, (lit< tt, (lit< tt, tt))));
+      from-position = of-each (λ m. m .from < 2) (pair .moves) (lit< tt, (lit< tt, (lit< tt, (lit< tt, tt))));
+      to-position = of-each (λ m. m .to < 2) (pair .moves) (lit< tt, (lit< tt, (lit< tt, (lit< tt, tt))));
+      disturbed = λ v w. of-each (λ m. T (mayBeDisturbed (ownerAt pair (m .from)))) (pair .moves) (tt, (tt, (tt, (tt, tt)))) (disturbanceMove v w);
+      meant = λ v inside. (pickAt false v, pick-at-is-meant false v inside);
+    }
+
+remembering : Controller pair
+remembering =
+    record {
+      pick = λ v t. pickAt (wasDisturbed t) (last v t);
+      legal = λ v t own. pick-at-is-meant (wasDisturbed t) (last v t) (controller-inside pair (last v t) own);
+    }
+
+-- both trails go from 0 to 1 and are plays of it; the picks differ
+pub pick-depends-on-disturbance :
+    (σ : Controller pair)
+    × Play pair σ 0 (meant still 1)
+    × Play pair σ 0 (disturbed still 1)
+    × (σ .pick 0 (meant still 1) ≡ σ .pick 0 (disturbed still 1) → ⊥)
+unfolding pair Play last remembering pickAt wasDisturbed
+pick-depends-on-disturbance = (
+  remembering,
+  (lit< tt, List·Memᴰ·head refl, refl),
+  (lit< tt, List·Memᴰ·tail (List·Memᴰ·head refl)),
+  λ (same : _≡_ {A = ℕ} 1 0). omega arith,
+)

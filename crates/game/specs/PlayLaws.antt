@@ -1,0 +1,67 @@
+-- Laws of plays: a play stays inside the arena, one that stands at an unsafe position is unsafe, a disturbance costs
+-- something, and only a controller's position is disturbed.
+use Prim.Native.Nat.{ℕ, _<_}
+use native.Mathlib.Omega.{arith}
+use mathlib.Core.Path.{_≡_, refl}
+use mathlib.Core.Logic.{_⊎_, inl, inr}
+use mathlib.Core.Bool.{Bool, true, false}
+use lib.Dec.{T}
+use Rattle.game.specs.Value.{Value}
+use Rattle.game.specs.Arena.{Arena, Owner, controller, environment, size, ownerAt, unsafe, meantMove, disturbanceMove, Meant, Disturbance, mayBeDisturbed, WellFormed}
+use Rattle.game.specs.Play.{Trail, still, meant, disturbed, last, disturbanceCost, Controller, Play, Unsafe, Legal, positional, targetOf}
+
+-- "a disturbance, which counts one"
+pub disturbance-costs-one : (a : Arena) (v w : ℕ) → disturbanceCost a v w ≡ 1
+unfolding disturbanceCost
+disturbance-costs-one a v w = refl
+
+pub disturbance-costs : (a : Arena) (v w : ℕ) → 0 < disturbanceCost a v w
+disturbance-costs a v w = rw (disturbance-costs-one a v w) (omega arith)
+
+-- the two owners
+pub by-owner : (o : Owner) → (o ≡ controller) ⊎ (o ≡ environment)
+by-owner controller = inl refl
+by-owner environment = inr refl
+
+pub may-be-disturbed : (o : Owner) → T (mayBeDisturbed o) → o ≡ controller
+may-be-disturbed controller h = refl
+may-be-disturbed environment h = absurd h
+
+-- a test is passed or failed
+pub by-test : (b : Bool) → T b ⊎ (b ≡ false)
+by-test true = inl tt
+by-test false = inr refl
+
+-- a trail that stands at an unsafe position is unsafe
+pub stands-unsafe : (a : Arena) (v : ℕ) (t : Trail) → T (unsafe a (last v t)) → Unsafe a v t
+unfolding last Unsafe
+stands-unsafe a v still h = h
+stands-unsafe a v (meant t w) h = inr h
+stands-unsafe a v (disturbed t w) h = inr h
+
+pub starts-inside : (a : Arena) (σ : Controller a) (v : ℕ) (t : Trail) → Play a σ v t → v < size a
+unfolding Play
+starts-inside a σ v still p = p
+starts-inside a σ v (meant t w) p = starts-inside a σ v t (p .0)
+starts-inside a σ v (disturbed t w) p = starts-inside a σ v t (p .0)
+
+module _ (a : Arena) (wf : WellFormed a) where
+  pub meant-inside : (v w : ℕ) → Meant a v w → w < size a
+  meant-inside v w m = wf .to-position (meantMove v w) m
+
+  pub disturbance-inside : (v w : ℕ) → Disturbance a v w → w < size a
+  disturbance-inside v w d = wf .to-position (disturbanceMove v w) d
+
+  pub disturbed-is-controller : (v w : ℕ) → Disturbance a v w → ownerAt a v ≡ controller
+  disturbed-is-controller v w d = may-be-disturbed (ownerAt a v) (wf .disturbed v w d)
+
+  pub stays-inside : (σ : Controller a) (v : ℕ) (t : Trail) → Play a σ v t → last v t < size a
+  unfolding last Play
+  stays-inside σ v still p = p
+  stays-inside σ v (meant t w) p = meant-inside (last v t) w (p .1)
+  stays-inside σ v (disturbed t w) p = disturbance-inside (last v t) w (p .1)
+
+-- what the controller of a row picks
+pub positional-pick : (a : Arena) (choice : ℕ → Value) (legal : Legal a choice) (v : ℕ) (t : Trail) → positional a choice legal .pick v t ≡ targetOf (choice (last v t))
+unfolding positional
+positional-pick a choice legal v t = refl

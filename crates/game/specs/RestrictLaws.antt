@@ -1,0 +1,168 @@
+-- T8: in the arena restricted to a legal row of choices, every controller has exactly the plays that the row's controller has
+-- in the whole arena, safe or unsafe alike and at the same cost. So a value there is that controller's worth here.
+use Prim.Native.Nat.{ℕ}
+use mathlib.Core.Path.{_≡_, refl, sym, ap, subst, _∙_}
+use mathlib.Core.Logic.{_⊎_, inl, inr, ⊎-map, _↔_}
+use mathlib.Core.Bool.{Bool, true, false, cond, _||_, not}
+use mathlib.Core.List.{List, [], _∷_, List·Memᴰ, List·Memᴰ·head, List·Memᴰ·tail, List·Memᴰ·not-nil, List·Memᴰ·cases-cons}
+use lib.Dec.{T}
+use Rattle.game.specs.Value.{Value, fin, ever, eqV}
+use Rattle.game.specs.Arena.{Arena, Move, Owner, controller, environment, ownerAt, meantMove, disturbanceMove, Meant, Disturbance, WellFormed}
+use Rattle.game.specs.Play.{Trail, still, meant, disturbed, last, cost, disturbanceCost, Controller, Allows, Play, Unsafe, LegalAs, Legal, positional, targetOf}
+use Rattle.game.specs.Worth.{WorthIs, AtMost, IsValue}
+use Rattle.game.specs.Restrict.{stays, keep, restricted, isController}
+use Rattle.game.specs.ValueLaws.{eqV-sound, fin-injective, fin-is-not-ever}
+use Rattle.game.specs.Bounds.{AtLeast, worth-is-both-bounds, value-is-bounds}
+use Rattle.game.specs.Memory.{some-controller}
+use Rattle.game.specs.PlayLaws.{disturbance-costs-one}
+
+-- the moves kept are those of the row that pass the test
+pub kept : (p : Move → Bool) (ms : List Move) (m : Move) → List·Memᴰ m (keep p ms) → List·Memᴰ m ms × T (p m)
+unfolding keep
+kept p [] m i = absurd (List·Memᴰ·not-nil i)
+kept p (x ∷ xs) m i = split (p x) refl i (kept p xs m)
+  where
+    first : p x ≡ true → (List·Memᴰ m (keep p xs) → List·Memᴰ m xs × T (p m)) → (m ≡ x) ⊎ List·Memᴰ m (keep p xs) → List·Memᴰ m (x ∷ xs) × T (p m)
+    first e rest (inl q) = (List·Memᴰ·head q, subst T (sym (ap p q ∙ e)) tt)
+    first e rest (inr j) = (List·Memᴰ·tail (rest j .0), rest j .1)
+
+    split : (b : Bool) → p x ≡ b → List·Memᴰ m (cond b (x ∷ keep p xs) (keep p xs)) → (List·Memᴰ m (keep p xs) → List·Memᴰ m xs × T (p m)) → List·Memᴰ m (x ∷ xs) × T (p m)
+    split true e i rest = first e rest (List·Memᴰ·cases-cons i)
+    split false e i rest = (List·Memᴰ·tail (rest i .0), rest i .1)
+
+pub passed : (p : Move → Bool) (ms : List Move) (m : Move) → List·Memᴰ m ms → T (p m) → List·Memᴰ m (keep p ms)
+unfolding keep
+passed p [] m i h = absurd (List·Memᴰ·not-nil i)
+passed p (x ∷ xs) m i h = split (p x) refl (List·Memᴰ·cases-cons i) (λ j. passed p xs m j h)
+  where
+    split : (b : Bool) → p x ≡ b → (m ≡ x) ⊎ List·Memᴰ m xs → (List·Memᴰ m xs → List·Memᴰ m (keep p xs)) → List·Memᴰ m (cond b (x ∷ keep p xs) (keep p xs))
+    split true e (inl q) rest = List·Memᴰ·head q
+    split true e (inr j) rest = List·Memᴰ·tail (rest j)
+    split false e (inl q) rest = absurd (subst T (ap p q ∙ e) h)
+    split false e (inr j) rest = rest j
+
+module _ (a : Arena) (choice : ℕ → Value) where
+  -- A meant move stays where it is the choice or the position isn't the controller's; a disturbance stays.
+  abbrev pub StaysAs : Owner → ℕ → ℕ → Type 0
+  StaysAs controller v w = choice v ≡ fin w
+  StaysAs environment v w = Unit {0}
+
+  stays-as : (o : Owner) (v w : ℕ) → T (not (isController o) || eqV (choice v) (fin w)) ↔ StaysAs o v w
+  stays-as controller v w = eqV-sound (choice v) (fin w)
+  stays-as environment v w = (λ h. tt, λ h. tt)
+
+  pub restricted-meant : (v w : ℕ) → Meant (restricted a choice) v w ↔ (Meant a v w × StaysAs (ownerAt a v) v w)
+  unfolding restricted stays
+  restricted-meant v w = (
+    λ i. let k = kept (stays a choice) (a .moves) (meantMove v w) i in (k .0, stays-as (ownerAt a v) v w .0 (k .1)),
+    λ h. passed (stays a choice) (a .moves) (meantMove v w) (h .0) (stays-as (ownerAt a v) v w .1 (h .1)),
+  )
+
+  pub restricted-disturbance : (v w : ℕ) → Disturbance (restricted a choice) v w ↔ Disturbance a v w
+  unfolding restricted stays
+  restricted-disturbance v w = (λ i. kept (stays a choice) (a .moves) (disturbanceMove v w) i .0, λ i. passed (stays a choice) (a .moves) (disturbanceMove v w) i tt)
+
+  -- no move is added
+  pub restricted-moves : (m : Move) → List·Memᴰ m (restricted a choice .moves) → List·Memᴰ m (a .moves)
+  unfolding restricted
+  restricted-moves m i = kept (stays a choice) (a .moves) m i .0
+
+  -- the moves' costs are those of the whole arena
+  restricted-disturbance-cost : (v w : ℕ) → disturbanceCost (restricted a choice) v w ≡ disturbanceCost a v w
+  restricted-disturbance-cost v w = disturbance-costs-one (restricted a choice) v w ∙ sym (disturbance-costs-one a v w)
+
+  pub restricted-cost : (v : ℕ) (t : Trail) → cost (restricted a choice) v t ≡ cost a v t
+  unfolding cost
+  restricted-cost v still = refl
+  restricted-cost v (meant t w) = restricted-cost v t
+  restricted-cost v (disturbed t w) = rw (restricted-cost v t, restricted-disturbance-cost (last v t) w)
+
+  pub restricted-unsafe : (v : ℕ) (t : Trail) → Unsafe (restricted a choice) v t ↔ Unsafe a v t
+  unfolding restricted Unsafe
+  restricted-unsafe v still = (λ u. u, λ u. u)
+  restricted-unsafe v (meant t w) = (⊎-map (restricted-unsafe v t .0) (λ u. u), ⊎-map (restricted-unsafe v t .1) (λ u. u))
+  restricted-unsafe v (disturbed t w) = (⊎-map (restricted-unsafe v t .0) (λ u. u), ⊎-map (restricted-unsafe v t .1) (λ u. u))
+
+  -- where the choice of the controller is q, a move stays exactly if it is allowed where q is picked
+  stays-is-allowed : (o : Owner) (v q w : ℕ) → (o ≡ controller → choice v ≡ fin q) → StaysAs o v w ↔ Allows o q w
+  stays-is-allowed controller v q w chosen = (λ e. fin-injective w q (sym e ∙ chosen refl), λ e. chosen refl ∙ ap fin (sym e))
+  stays-is-allowed environment v q w chosen = (λ h. h, λ h. h)
+
+  -- some meant move stays
+  some-stays : (o : Owner) (v : ℕ) → LegalAs o a v (choice v) → (w : ℕ) × Meant a v w → (w : ℕ) × (Meant a v w × StaysAs o v w)
+  some-stays controller v (w, e, m) some = (w, (m, e))
+  some-stays environment v dash (w, m) = (w, (m, tt))
+
+  -- a choice that names a target names the one that it names
+  named : (x : Value) (w : ℕ) → x ≡ fin w → x ≡ fin (targetOf x)
+  unfolding targetOf
+  named (fin k) w e = refl
+  named ever w e = absurd (fin-is-not-ever w (sym e))
+
+  module _ (wf : WellFormed a) (legal : Legal a choice) where
+    pub restricted-is-well-formed : WellFormed (restricted a choice)
+    unfolding restricted
+    restricted-is-well-formed =
+        record {
+          kind = λ m i. wf .kind m (restricted-moves m i);
+          from-position = λ m i. wf .from-position m (restricted-moves m i);
+          to-position = λ m i. wf .to-position m (restricted-moves m i);
+          disturbed = λ v w d. wf .disturbed v w (restricted-disturbance v w .0 d);
+          meant =
+              λ v inside.
+              let m = some-stays (ownerAt a v) v (legal v inside) (wf .meant v inside) in
+              (m .0, restricted-meant v (m .0) .1 (m .1));
+        }
+
+    module _ (τ : Controller (restricted a choice)) where
+      -- the restricted arena leaves its controllers no other pick
+      pick-is-choice : (v : ℕ) (t : Trail) → ownerAt a (last v t) ≡ controller → choice (last v t) ≡ fin (τ .pick v t)
+      unfolding restricted
+      pick-is-choice v t own =
+          subst (λ (o : Owner). StaysAs o (last v t) (τ .pick v t)) own (restricted-meant (last v t) (τ .pick v t) .0 (τ .legal v t own) .1)
+
+      pub restricted-play : (v : ℕ) (t : Trail) → Play (restricted a choice) τ v t ↔ Play a (positional a choice legal) v t
+      unfolding restricted Play positional
+      restricted-play v still = (λ p. p, λ p. p)
+      restricted-play v (meant t w) =
+          let u = last v t in
+          let picked = stays-is-allowed (ownerAt a u) u (τ .pick v t) w (pick-is-choice v t) in
+          let chosen = stays-is-allowed (ownerAt a u) u (targetOf (choice u)) w (λ own. named (choice u) (τ .pick v t) (pick-is-choice v t own)) in (
+            λ p. (restricted-play v t .0 (p .0), restricted-meant u w .0 (p .1) .0, chosen .0 (picked .1 (p .2))),
+            λ p. (restricted-play v t .1 (p .0), restricted-meant u w .1 (p .1, chosen .1 (p .2)), picked .0 (chosen .1 (p .2))),
+          )
+      restricted-play v (disturbed t w) = (
+        λ p. (restricted-play v t .0 (p .0), restricted-disturbance (last v t) w .0 (p .1)),
+        λ p. (restricted-play v t .1 (p .0), restricted-disturbance (last v t) w .1 (p .1)),
+      )
+
+      restricted-at-least : (v : ℕ) (x : Value) → AtLeast (restricted a choice) τ v x ↔ AtLeast a (positional a choice legal) v x
+      restricted-at-least v x = (
+        λ low t p u. rw (restricted-cost v t) at (low t (restricted-play v t .1 p) (restricted-unsafe v t .1 u)),
+        λ low t p u. rw (restricted-cost v t) (low t (restricted-play v t .0 p) (restricted-unsafe v t .0 u)),
+      )
+
+      restricted-at-most : (v : ℕ) (x : Value) → AtMost (restricted a choice) τ v x ↔ AtMost a (positional a choice legal) v x
+      unfolding AtMost
+      restricted-at-most v (fin k) = (
+        λ h.
+            let t = h .0 .trail in
+            (record { trail = t; play = restricted-play v t .0 (h .0 .play); ends = restricted-unsafe v t .0 (h .0 .ends) }, rw (restricted-cost v t) at (h .1)),
+        λ h.
+            let t = h .0 .trail in
+            (record { trail = t; play = restricted-play v t .1 (h .0 .play); ends = restricted-unsafe v t .1 (h .0 .ends) }, rw (restricted-cost v t) (h .1)),
+      )
+      restricted-at-most v ever = (λ h. tt, λ h. tt)
+
+    -- T8
+    pub restricted-value-is-worth : (v : ℕ) (x : Value) → IsValue (restricted a choice) v x ↔ WorthIs a (positional a choice legal) v x
+    restricted-value-is-worth v x =
+        let σ = positional a choice legal in
+        let τ = some-controller (restricted a choice) restricted-is-well-formed in (
+          λ h.
+              let b = value-is-bounds (restricted a choice) v x .0 h in
+              worth-is-both-bounds a σ v x .1 (restricted-at-least (b .0 .0) v x .0 (b .0 .1), restricted-at-most τ v x .0 (b .1 τ)),
+          λ h.
+              let b = worth-is-both-bounds a σ v x .0 h in
+              value-is-bounds (restricted a choice) v x .1 ((τ, restricted-at-least τ v x .1 (b .0)), λ ρ. restricted-at-most ρ v x .1 (b .1)),
+        )
