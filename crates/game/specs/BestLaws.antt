@@ -3,14 +3,14 @@
 use Prim.Native.Nat.{ℕ, _≤_, _<_}
 use native.Mathlib.Omega.{arith}
 use mathlib.Core.Path.{_≡_, refl, sym, ap, _∙_, subst}
-use mathlib.Core.Logic.{_⊎_, inl, inr, _↔_}
+use mathlib.Core.Logic.{_⊎_, inl, inr}
 use mathlib.Core.Bool.{Bool, true, false, cond, _&&_, _||_, not}
-use mathlib.Core.List.{List, [], _∷_, List·Memᴰ, List·Memᴰ·head, List·Memᴰ·tail, List·Memᴰ·cases-cons, List·Memᴰ·not-nil, Memᴰ·cast}
+use mathlib.Core.List.{List, [], _∷_, List·Memᴰ, List·Memᴰ·head, List·Memᴰ·tail, List·Memᴰ·cases-cons, List·Memᴰ·not-nil}
 use lib.Dec.{T, ltb, ltb→lt, nltb→le, T-not}
 use Rattle.game.specs.Value.{Value, fin, ever, _≼_, _≺_, ltV, eqV}
 use Rattle.game.specs.Arena.{Arena, Move, Owner, controller, environment, WellFormed, size, ownerAt, Meant, meantMove}
-use Rattle.game.specs.Play.{LegalAs, LegalAt, Legal}
-use Rattle.game.specs.Choice.{IsBest, IsChoiceAs, IsChoice}
+use Rattle.game.specs.Play.{LegalAs, Legal}
+use Rattle.game.specs.Choice.{IsChoiceAs, IsChoice}
 use Rattle.game.specs.Table.{meantFrom}
 use Rattle.game.specs.Best.{better, bestIn, bestAs, bestAt}
 use Rattle.game.specs.ValueLaws.{fin-injective, fin-is-not-ever, ≼refl, ≼trans, ≼antisym, ≼-or-≺, ≺→≼, ≺irrefl, ≡→≼, ltV-sound, eqV-sound}

@@ -34,3 +34,6 @@ pub mod TableIsRounds
 pub mod SummaryLaws
 pub mod RoundBounds
 pub mod BestLaws
+pub mod RoundHolding
+pub mod RoundRuin
+pub mod RoundCertificate

@@ -1,12 +1,12 @@
 -- What the computed tests over moves say: a test that passes comes with a target, one that fails leaves none. One
 -- search, `someMove`, stands under all of them.
 use Prim.Native.Nat.{ℕ}
-use mathlib.Core.Path.{_≡_, refl, sym, ap, _∙_, subst}
+use mathlib.Core.Path.{_≡_, refl, sym, subst}
 use mathlib.Core.Logic.{_⊎_, inl, inr, _↔_}
 use mathlib.Core.Bool.{Bool, true, false, cond, _&&_, _||_, not}
 use mathlib.Core.List.{List, [], _∷_, List·Memᴰ, List·Memᴰ·head, List·Memᴰ·tail, List·Memᴰ·cases-cons, List·Memᴰ·not-nil, Memᴰ·cast}
 use lib.Dec.{T, eqb, eqb→eq, eqb-refl, not-T, T-not}
-use Rattle.game.specs.Arena.{Arena, Move, Meant, Disturbance, meantMove, disturbanceMove}
+use Rattle.game.specs.Arena.{Arena, Move, Meant, Disturbance, meantMove}
 use Rattle.game.specs.Table.{someMove, everyMove, meantFrom, disturbanceFrom}
 
 -- the parts of a test

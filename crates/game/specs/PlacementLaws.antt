@@ -1,9 +1,9 @@
 -- A placement by cases: whether it is one, and the value and the step that it stands for.
 use Prim.Native.Nat.{ℕ}
-use mathlib.Core.Path.{_≡_, refl, sym, ap, _∙_, subst}
+use mathlib.Core.Path.{_≡_, refl, sym, ap, subst}
 use mathlib.Core.Logic.{_⊎_, inl, inr}
 use lib.Dec.{T}
-use Rattle.game.specs.Value.{Value, fin, ever}
+use Rattle.game.specs.Value.{fin, ever}
 use Rattle.game.specs.Table.{Placement, unplaced, placed, isPlaced, valueIn, stepIn}
 use Rattle.game.specs.ValueLaws.{fin-injective, fin-is-not-ever}
 

@@ -8,7 +8,7 @@ use mathlib.Core.Logic.{_⊎_, inl, inr, _↔_}
 use lib.ListN.{length}
 use lib.Dec.{T, eqb→eq}
 use Rattle.game.specs.Arena.{Arena, size}
-use Rattle.game.specs.Table.{Placement, unplaced, placed, Table, placementAt, place, hasValue, ready, begins, tableAfter, tableBefore, table}
+use Rattle.game.specs.Table.{Placement, unplaced, placed, Table, placementAt, hasValue, ready, begins, tableAfter, tableBefore, table}
 use Rattle.game.specs.MoveTests.{some-disturbance}
 use Rattle.game.specs.TableLaws.{Extends, extends-refl, Takes, place-none, place-none-or-fewer, unchanged-takes-none, freeCount, free-count-bound, none-free}
 use Rattle.game.specs.RoundTables.{RoundTakes, after-length, after-later, before-length, before-later, before-from, taken-is-placed}

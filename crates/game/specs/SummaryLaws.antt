@@ -3,14 +3,14 @@
 use Prim.Native.Nat.{ℕ, zero, suc, _+_, _≤_, _<_}
 use native.Mathlib.Decide.{decLt}
 use native.Mathlib.Omega.{arith}
-use mathlib.Core.Path.{_≡_, refl, sym, ap, _∙_, subst}
+use mathlib.Core.Path.{_≡_, refl, sym, ap, _∙_}
 use mathlib.Core.Logic.{_⊎_, inl, inr}
 use mathlib.Core.Bool.{Bool, true, false, cond}
 use lib.Dec.{leb}
 use borrow.Author.Tests.{leb-true, leb-false}
-use Rattle.game.specs.Value.{Value, fin, ever, _≼_, eqV}
+use Rattle.game.specs.Value.{Value, fin, ever, eqV}
 use Rattle.game.specs.Summary.{countBelow, firstOfPair, pairCount, higher, highest, everCount}
-use Rattle.game.specs.ValueLaws.{fin-is-not-ever, fin≼, ≼refl, ≼trans}
+use Rattle.game.specs.ValueLaws.{fin-is-not-ever}
 
 pub count-bound : (p : ℕ → Bool) (n : ℕ) → countBelow p n ≤ n
 unfolding countBelow

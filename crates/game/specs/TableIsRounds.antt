@@ -1,19 +1,18 @@
 -- The bounded table is the unbounded definition's: at every position the table has (k, s) exactly when round (k, s) has
 -- the position, for all k and s. By induction on k: the sets that value k begins with are those of the table before it.
-use Prim.Native.Nat.{ℕ, zero, suc, _≤_, _<_}
-use native.Mathlib.Omega.{arith}
-use mathlib.Core.Path.{_≡_, refl, sym, ap, _∙_, subst}
-use mathlib.Core.Logic.{_⊎_, inl, inr, _↔_, Iff·trans, Iff·symm}
-use mathlib.Core.Bool.{Bool, true, false, not, _&&_}
+use Prim.Native.Nat.{ℕ, zero, suc, _<_}
+use mathlib.Core.Path.{_≡_, refl, sym, _∙_, subst}
+use mathlib.Core.Logic.{_⊎_, inl, inr, _↔_, Iff·trans}
+use mathlib.Core.Bool.{Bool, not, _&&_}
 use lib.ListN.{length}
-use lib.Dec.{T, eqb, eqb→eq, eqb-refl, not-T, T-not}
-use Rattle.game.specs.Arena.{Arena, Owner, controller, environment, WellFormed, size, ownerAt, unsafe, Meant, Disturbance, disturbanceMove}
-use Rattle.game.specs.Rounds.{Positions, JoinsAs, Joins, Level, PlacedBy, JoinsIn, level, Round, NeverPlaced}
+use lib.Dec.{T, eqb→eq, eqb-refl, not-T, T-not}
+use Rattle.game.specs.Arena.{Arena, Owner, controller, environment, WellFormed, size, ownerAt, Meant, Disturbance, disturbanceMove}
+use Rattle.game.specs.Rounds.{Positions, JoinsAs, Joins, PlacedBy, JoinsIn, level, Round, NeverPlaced}
 use Rattle.game.specs.Table.{Placement, unplaced, placed, Table, placementAt, isPlaced, hasValue, someMove, meantFrom, place, readyAs, ready, begins, tableAfter, tableBefore, table}
 use Rattle.game.specs.MoveTests.{passes-or-fails, some-meant, some-disturbance}
 use Rattle.game.specs.PlacementLaws.{is-placed, is-not-placed, placed-or-not}
-use Rattle.game.specs.TableLaws.{Extends, Takes, extends-placed, place-extends, place-takes, place-leaves}
-use Rattle.game.specs.RoundTables.{RoundTakes, tableFor, testFor, after-length, before-length, before-all, before-from, taken-is-placed}
+use Rattle.game.specs.TableLaws.{Takes, extends-placed, place-extends, place-takes, place-leaves}
+use Rattle.game.specs.RoundTables.{RoundTakes, after-length, before-length, before-all, before-from, taken-is-placed}
 use Rattle.game.specs.Stable.{after-before, table-has-the-taken}
 
 -- the positions that a table has placed
@@ -46,7 +45,7 @@ pub ready-joins : (a : Arena) (t : Table) (v : ℕ) → T (ready a t v) ↔ Join
 unfolding ready
 ready-joins a t v = ready-joins-as (ownerAt a v) a t v
 
-joins-map-as : (o : Owner) (a : Arena) (P Q : Positions) → ((w : ℕ) → P w → Q w) → (v : ℕ) → JoinsAs o a P v → JoinsAs o a Q v
+pub joins-map-as : (o : Owner) (a : Arena) (P Q : Positions) → ((w : ℕ) → P w → Q w) → (v : ℕ) → JoinsAs o a P v → JoinsAs o a Q v
 joins-map-as controller a P Q f v all = λ w m. f w (all w m)
 joins-map-as environment a P Q f v some = (some .0, some .1, f (some .0) (some .2))
 
@@ -116,7 +115,7 @@ module _ (a : Arena) (k : ℕ) (is : LevelIs a k) where
       (joins-is a (PlacedBy a (level a k) s) t (full s) (placed-by s)) v
 
 -- value k in the table before value k + 1 is being taken by a round of value k
-value-taken : (a : Arena) (k w : ℕ) → T (hasValue k (placementAt (tableBefore a (suc k)) w)) ↔ ((s : ℕ) × RoundTakes a (tableBefore a k) k s w)
+pub value-taken : (a : Arena) (k w : ℕ) → T (hasValue k (placementAt (tableBefore a (suc k)) w)) ↔ ((s : ℕ) × RoundTakes a (tableBefore a k) k s w)
 unfolding hasValue
 value-taken a k w = (look (placementAt (tableBefore a (suc k)) w) refl, taken)
   where
