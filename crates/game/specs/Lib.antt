@@ -13,6 +13,7 @@ pub mod Journal
 pub mod Table
 pub mod Best
 pub mod Fault
+pub mod FirstFault
 pub mod ValueLaws
 pub mod PlayLaws
 pub mod Bounds
@@ -37,3 +38,5 @@ pub mod BestLaws
 pub mod RoundHolding
 pub mod RoundRuin
 pub mod RoundCertificate
+pub mod ConditionTests
+pub mod FaultLaws

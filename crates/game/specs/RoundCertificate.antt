@@ -1,4 +1,4 @@
--- T6: the rounds' values and steps, with document 01's choice, have the certificate.
+-- The rounds' values and steps, with document 01's choice, have the certificate.
 use Prim.Native.Nat.{ℕ, _<_}
 use mathlib.Core.Path.{_≡_}
 use lib.Dec.{T}
