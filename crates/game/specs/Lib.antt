@@ -25,3 +25,5 @@ pub mod Carry
 pub mod Prepend
 pub mod Optimal
 pub mod RestrictLaws
+pub mod Extend
+pub mod Resilience
