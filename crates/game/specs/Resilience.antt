@@ -72,10 +72,10 @@ module _ (a : Arena) (v : ℕ) (ρ : Unending a v) where
   prefix-is-play σ consistent zero = ρ .inside
   prefix-is-play σ consistent (suc j) =
       moved-play
-        a σ v (ρ .bit j) (prefix ρ j) (ρ .position (suc j))
-        (prefix-is-play σ consistent j)
-        (rw (prefix-last j) (ρ .edge j))
-        (λ bit own. consistent j (rw (prefix-last j) at own) bit)
+      a σ v (ρ .bit j) (prefix ρ j) (ρ .position (suc j))
+      (prefix-is-play σ consistent j)
+      (rw (prefix-last j) (ρ .edge j))
+      (λ bit own. consistent j (rw (prefix-last j) at own) bit)
 
   -- an unsafe prefix has an unsafe position, and the other way
   unsafe-prefix : (j : ℕ) → Unsafe a v (prefix ρ j) → (i : ℕ) × T (unsafe a (ρ .position i))
@@ -99,13 +99,12 @@ safe-extension a σ v t e safe u =
 module _ (a : Arena) (wf : WellFormed a) (σ : Controller a) (v : ℕ) where
   -- k-resilient: no finite play that costs less than k is unsafe
   pub finite-resilience : (k : ℕ) → Resilient a σ v (finite k) ↔ SafeBelow a σ v k
-  finite-resilience k =
-      (
-        λ resilient t p less u.
-          let e = play-can-be-extended a σ v wf t p in
-          safe-extension a σ v t e (resilient (e .play) (e .consistent) (λ j. lt-of-le-of-lt (e .no-more j) less)) u,
-        λ safe ρ consistent fewer. safe-prefixes a v ρ (λ j u. safe (prefix ρ j) (prefix-is-play a v ρ σ consistent j) (fewer j) u),
-      )
+  finite-resilience k = (
+    λ resilient t p less u.
+        let e = play-can-be-extended a σ v wf t p in
+        safe-extension a σ v t e (resilient (e .play) (e .consistent) (λ j. lt-of-le-of-lt (e .no-more j) less)) u,
+    λ safe ρ consistent fewer. safe-prefixes a v ρ (λ j u. safe (prefix ρ j) (prefix-is-play a v ρ σ consistent j) (fewer j) u),
+  )
 
   -- ω-resilient already: no finite play is unsafe
   ω-resilience-is-safety : Resilient a σ v ω → AlwaysSafe a σ v
@@ -114,11 +113,10 @@ module _ (a : Arena) (wf : WellFormed a) (σ : Controller a) (v : ℕ) where
       safe-extension a σ v t e (resilient (e .play) (e .consistent) (suc (cost a v t), λ j. suc-le-suc (e .no-more j))) u
 
   pub ω+1-resilience : Resilient a σ v ω+1 ↔ AlwaysSafe a σ v
-  ω+1-resilience =
-      (
-        λ resilient. ω-resilience-is-safety (λ ρ consistent fewer. resilient ρ consistent tt),
-        λ safe ρ consistent fewer. safe-prefixes a v ρ (λ j u. safe (prefix ρ j) (prefix-is-play a v ρ σ consistent j) u),
-      )
+  ω+1-resilience = (
+    λ resilient. ω-resilience-is-safety (λ ρ consistent fewer. resilient ρ consistent tt),
+    λ safe ρ consistent fewer. safe-prefixes a v ρ (λ j u. safe (prefix ρ j) (prefix-is-play a v ρ σ consistent j) u),
+  )
 
   pub ω-resilience : Resilient a σ v ω ↔ Resilient a σ v ω+1
   ω-resilience = (λ resilient. ω+1-resilience .1 (ω-resilience-is-safety resilient), λ resilient ρ consistent fewer. resilient ρ consistent tt)
@@ -160,8 +158,7 @@ resilience-is-unique a v α β p q = ⊑antisym α β (q .supremum (p .strategy)
 pub value-is-resilience : (a : Arena) (wf : WellFormed a) (value choice step : ℕ → Value) (certificate : Certificate a value choice step) (v : ℕ) → v < size a → (x : Value) → IsValue a v x ↔ ResilienceIs a v (ordinalOf x)
 value-is-resilience a wf value choice step certificate v inside x =
     let here = certificate-gives-resilience a wf value choice step certificate v inside in
-    let right = certificate-gives-values a wf value choice step certificate v inside in
-    (
+    let right = certificate-gives-values a wf value choice step certificate v inside in (
       λ i. subst (λ (y : Value). ResilienceIs a v (ordinalOf y)) (value-is-unique a v (value v) x right i) here,
       λ r. subst (IsValue a v) (ordinal-injective (value v) x (resilience-is-unique a v (ordinalOf (value v)) (ordinalOf x) here r)) right,
     )

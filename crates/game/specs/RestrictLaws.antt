@@ -11,10 +11,10 @@ use Rattle.game.specs.Arena.{Arena, Move, Owner, controller, environment
 use Rattle.game.specs.Play.{Trail, still, meant, disturbed, last, cost, disturbanceCost, Controller, Allows, Play, Unsafe, LegalAs, Legal, positional, targetOf}
 use Rattle.game.specs.Worth.{WorthIs, AtMost, IsValue}
 use Rattle.game.specs.Restrict.{stays, keep, restricted, isController}
-use Rattle.game.specs.ValueLaws.{eqV-sound, fin-injective, fin-is-not-ever}
+use Rattle.game.specs.ValueLaws.{eqV-sound, fin-injective}
 use Rattle.game.specs.Bounds.{AtLeast, worth-is-both-bounds, value-is-bounds}
 use Rattle.game.specs.Memory.{some-controller}
-use Rattle.game.specs.PlayLaws.{disturbance-costs-one}
+use Rattle.game.specs.PlayLaws.{disturbance-costs-one, target-is-named}
 
 -- the moves kept are those of the row that pass the test
 pub kept : (p : Move → Bool) (ms : List Move) (m : Move) → List·Memᴰ m (keep p ms) → List·Memᴰ m ms × T (p m)
@@ -93,12 +93,6 @@ module _ (a : Arena) (choice : ℕ → Value) where
   some-stays controller v (w, e, m) some = (w, (m, e))
   some-stays environment v dash (w, m) = (w, (m, tt))
 
-  -- a choice that names a target names the one that it names
-  named : (x : Value) (w : ℕ) → x ≡ fin w → x ≡ fin (targetOf x)
-  unfolding targetOf
-  named (fin k) w e = refl
-  named ever w e = absurd (fin-is-not-ever w (sym e))
-
   module _ (wf : WellFormed a) (legal : Legal a choice) where
     pub restricted-is-well-formed : WellFormed (restricted a choice)
     unfolding restricted
@@ -127,7 +121,7 @@ module _ (a : Arena) (choice : ℕ → Value) where
       restricted-play v (meant t w) =
           let u = last v t in
           let picked = stays-is-allowed (ownerAt a u) u (τ .pick v t) w (pick-is-choice v t) in
-          let chosen = stays-is-allowed (ownerAt a u) u (targetOf (choice u)) w (λ own. named (choice u) (τ .pick v t) (pick-is-choice v t own)) in (
+          let chosen = stays-is-allowed (ownerAt a u) u (targetOf (choice u)) w (λ own. target-is-named (choice u) (τ .pick v t) (pick-is-choice v t own)) in (
             λ p. (restricted-play v t .0 (p .0), restricted-meant u w .0 (p .1) .0, chosen .0 (picked .1 (p .2))),
             λ p. (restricted-play v t .1 (p .0), restricted-meant u w .1 (p .1, chosen .1 (p .2)), picked .0 (chosen .1 (p .2))),
           )
