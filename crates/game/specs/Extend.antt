@@ -5,13 +5,13 @@ use Prim.Native.Nat.{ℕ, zero, suc, _+_, _≤_, _<_}
 use native.Mathlib.Omega.{arith}
 use native.Mathlib.Nat.{zero-add, add-zero, add-suc, le-trans, le-of-eq}
 use mathlib.Core.Path.{_≡_, refl, sym, ap, subst, _∙_}
-use mathlib.Core.Logic.{_⊎_, inl, inr}
+use mathlib.Core.Logic.{_⊎_}
 use mathlib.Core.Bool.{Bool, true, false, cond}
 use lib.Dec.{T}
 use Rattle.game.specs.Arena.{Arena, Owner, controller, environment, size, ownerAt, unsafe, Meant, Disturbance, WellFormed}
 use Rattle.game.specs.Play.{Trail, still, meant, disturbed, last, cost, Controller, Allows, Play, Unsafe}
 use Rattle.game.specs.Journal.{Edge, Unending, prefix, Consistent}
-use Rattle.game.specs.PlayLaws.{by-owner, starts-inside, stays-inside}
+use Rattle.game.specs.PlayLaws.{starts-inside, stays-inside}
 
 -- the trail after one more move, a disturbance where the bit says so
 abbrev pub moved : Bool → Trail → ℕ → Trail
@@ -40,7 +40,12 @@ unfolding Unsafe
 moved-unsafe a v true t w u = u
 moved-unsafe a v false t w u = u
 
-pub moved-play : (a : Arena) (σ : Controller a) (v : ℕ) (b : Bool) (t : Trail) (w : ℕ) → Play a σ v t → Edge b a (last v t) w → (b ≡ false → ownerAt a (last v t) ≡ controller → w ≡ σ .pick v t) → Play a σ v (moved b t w)
+pub moved-play :
+    (a : Arena) (σ : Controller a) (v : ℕ) (b : Bool) (t : Trail) (w : ℕ)
+    → Play a σ v t
+    → Edge b a (last v t) w
+    → (b ≡ false → ownerAt a (last v t) ≡ controller → w ≡ σ .pick v t)
+    → Play a σ v (moved b t w)
 unfolding Play
 moved-play a σ v true t w p edge picked = (p, edge)
 moved-play a σ v false t w p edge picked = (p, edge, allowed (ownerAt a (last v t)) (picked refl))
@@ -59,7 +64,9 @@ module _ (a : Arena) (σ : Controller a) (v : ℕ) where
     picked : bit ≡ false → ownerAt a (last v t) ≡ controller → target ≡ σ .pick v t
 
   next-of-meant : (t t′ : Trail) (w : ℕ) → t′ ≡ meant t w → Meant a (last v t) w → Allows (ownerAt a (last v t)) (σ .pick v t) w → Next t t′
-  next-of-meant t t′ w e m allowed = record { bit = false; target = w; trail = e; edge = m; picked = λ bit own. subst (λ (o : Owner). Allows o (σ .pick v t) w) own allowed }
+  next-of-meant t t′ w e m allowed =
+      let picked : ownerAt a (last v t) ≡ controller → w ≡ σ .pick v t = λ own. subst (λ (o : Owner). Allows o (σ .pick v t) w) own allowed in
+      record { bit = false; target = w; trail = e; edge = m; picked = λ bit. picked }
 
   next-of-disturbed : (t t′ : Trail) (w : ℕ) → t′ ≡ disturbed t w → Disturbance a (last v t) w → Next t t′
   next-of-disturbed t t′ w e d = record { bit = true; target = w; trail = e; edge = d; picked = λ bit own. absurd (subst T bit tt) }
@@ -113,7 +120,11 @@ module _ (a : Arena) (σ : Controller a) (v : ℕ) where
   before t f zero = t
   before t f (suc j) = f j
 
-  before-next : (t : Trail) (f : ℕ → Trail) → Next t (f 0) → ((j : ℕ) → Next (f j) (f (suc j))) → (j : ℕ) → Next (before t f j) (before t f (suc j))
+  before-next :
+      (t : Trail) (f : ℕ → Trail)
+      → Next t (f 0)
+      → ((j : ℕ) → Next (f j) (f (suc j)))
+      → (j : ℕ) → Next (before t f j) (before t f (suc j))
   unfolding before
   before-next t f first next zero = first
   before-next t f first next (suc j) = next j
@@ -142,13 +153,13 @@ module _ (a : Arena) (σ : Controller a) (v : ℕ) where
   module _ (wf : WellFormed a) where
     -- some meant move follows every play
     some-move : (t : Trail) → Play a σ v t → (w : ℕ) × Meant a (last v t) w × Allows (ownerAt a (last v t)) (σ .pick v t) w
-    some-move t p = go (by-owner (ownerAt a (last v t)))
+    some-move t p = go (ownerAt a (last v t)) refl
       where
-        go : (ownerAt a (last v t) ≡ controller) ⊎ (ownerAt a (last v t) ≡ environment) → (w : ℕ) × Meant a (last v t) w × Allows (ownerAt a (last v t)) (σ .pick v t) w
-        go (inl own) = (σ .pick v t, σ .legal v t own, subst (λ (o : Owner). Allows o (σ .pick v t) (σ .pick v t)) (sym own) refl)
-        go (inr own) =
+        go : (o : Owner) → ownerAt a (last v t) ≡ o → (w : ℕ) × Meant a (last v t) w × Allows o (σ .pick v t) w
+        go controller own = (σ .pick v t, σ .legal v t own, refl)
+        go environment own =
             let m = wf .meant (last v t) (stays-inside a wf σ v t p) in
-            (m .0, m .1, subst (λ (o : Owner). Allows o (σ .pick v t) (m .0)) (sym own) tt)
+            (m .0, m .1, tt)
 
     -- the plays that follow, a meant move longer each
     onward : (t : Trail) → Play a σ v t → ℕ → (t′ : Trail) × Play a σ v t′
@@ -178,10 +189,11 @@ module _ (a : Arena) (σ : Controller a) (v : ℕ) where
         let r = reached t p f refl (onward-next t p) in
         let inside = starts-inside a σ v t p in
         let n = r .length in
+        let same-cost : (j : ℕ) → cost a v (r .passing .at (j + n)) ≡ cost a v t = λ j. ap (cost a v) (r .agrees j) ∙ onward-cost t p j in
         record {
           play = unending (r .passing) inside;
           consistent = unending-is-consistent (r .passing) inside;
           length = n;
           extends = prefix-passes (r .passing) inside n ∙ ap (r .passing .at) (sym (zero-add n)) ∙ r .agrees 0;
-          no-more = λ j. rw (prefix-passes (r .passing) inside j) (le-trans (costs-more (r .passing) inside j n) (le-of-eq (ap (cost a v) (r .agrees j) ∙ onward-cost t p j)));
+          no-more = λ j. rw (prefix-passes (r .passing) inside j) (le-trans (costs-more (r .passing) inside j n) (le-of-eq (same-cost j)));
         }

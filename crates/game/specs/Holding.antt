@@ -29,7 +29,8 @@ module _ (a : Arena) (value choice step : ℕ → Value) where
       → Allows (ownerAt a v) p w
       → x ≼ value v ⊕ c
       → x ≼ value w ⊕ c
-  meant-move-holds v p w c x at keeps m allowed h = ≼trans _ _ _ h (⊕mono _ _ c c (go (ownerAt a v) keeps allowed (at .holding)) (omega arith))
+  meant-move-holds v p w c x at keeps m allowed h =
+      ≼trans _ _ _ h (⊕mono _ _ c c (go (ownerAt a v) keeps allowed (at .holding)) (omega arith))
     where
       go : (o : Owner) → (o ≡ controller → value v ≼ value p) → Allows o p w → HoldingAs a value choice step o v → value v ≼ value w
       go controller keeps e holding = rw e (keeps refl)
@@ -40,7 +41,7 @@ module _ (a : Arena) (value choice step : ℕ → Value) where
   choice-keeps v at = go (ownerAt a v) (at .legal) (at .holding)
     where
       go : (o : Owner) → LegalAs o a v (choice v) → HoldingAs a value choice step o v → o ≡ controller → value v ≼ value (targetOf (choice v))
-      go controller (w, e, m) holding own = holding .0 (targetOf (choice v)) (target-is-named (choice v) w e)
+      go controller (w, e, m) holding own = holding .0 _ (target-is-named (choice v) w e)
       go environment dash holding own = absurd (environment-is-not-controller own)
 
   -- the same bound across the row's own choice (at L, any meant move)
@@ -78,7 +79,7 @@ module _ (a : Arena) (wf : WellFormed a) (value choice step : ℕ → Value) (ce
     unfolding last cost Play
     plays-hold still p = rw (⊕zero (value v)) (≼refl (value v))
     plays-hold (meant t w) (p, m, allowed) =
-        meant-move-holds a value choice step (last v t) (σ .pick v t) w (cost a v t) (value v) (here t p) (keeps t p) m allowed (plays-hold t p)
+        meant-move-holds a value choice step (last v t) _ w (cost a v t) (value v) (here t p) (keeps t p) m allowed (plays-hold t p)
     plays-hold (disturbed t w) (p, d) =
         let own = disturbed-is-controller a wf (last v t) w d in
         disturbance-holds a value choice step (last v t) w (cost a v t) (value v) (here t p) own d (plays-hold t p)

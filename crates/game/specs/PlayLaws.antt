@@ -66,7 +66,9 @@ module _ (a : Arena) (wf : WellFormed a) where
   stays-inside σ v (disturbed t w) p = disturbance-inside (last v t) w (p .1)
 
 -- what the controller of a row picks
-pub positional-pick : (a : Arena) (choice : ℕ → Value) (legal : Legal a choice) (v : ℕ) (t : Trail) → positional a choice legal .pick v t ≡ targetOf (choice (last v t))
+pub positional-pick :
+    (a : Arena) (choice : ℕ → Value) (legal : Legal a choice) (v : ℕ) (t : Trail)
+    → positional a choice legal .pick v t ≡ targetOf (choice (last v t))
 unfolding positional
 positional-pick a choice legal v t = refl
 

@@ -14,7 +14,8 @@ use Rattle.game.specs.Worth.{AlwaysSafe, SafeBelow, AtMost, IsValue}
 use Rattle.game.specs.Certificate.{Certificate}
 use Rattle.game.specs.Journal.{Unending, prefix, Consistent, Safe, Ordinal, finite, ω, ω+1, Resilient, forget, Strategy, _⊑_, ResilienceIs, ordinalOf}
 use Rattle.game.specs.PlayLaws.{stands-unsafe}
-use Rattle.game.specs.Bounds.{AtLeast, safe-below-is-at-least, always-safe-is-at-least, bounds-in-order, value-is-bounds, worth-is-both-bounds}
+use Rattle.game.specs.Bounds.{AtLeast, safe-below-is-at-least, always-safe-is-at-least, bounds-in-order, worth-is-both-bounds}
+use Rattle.game.specs.Ruin.{certificate-gives-at-most}
 use Rattle.game.specs.Certified.{certificate-is-legal, certificate-gives-worths, certificate-gives-values}
 use Rattle.game.specs.Unique.{value-is-unique}
 use Rattle.game.specs.Extend.{moved-last, moved-unsafe, moved-play, Extension, play-can-be-extended}
@@ -83,7 +84,10 @@ module _ (a : Arena) (v : ℕ) (ρ : Unending a v) where
   unsafe-prefix zero u = (0, rw (ρ .starts) u)
   unsafe-prefix (suc j) u = go (unsafe-prefix j) (moved-unsafe a v (ρ .bit j) (prefix ρ j) (ρ .position (suc j)) u)
     where
-      go : (Unsafe a v (prefix ρ j) → (i : ℕ) × T (unsafe a (ρ .position i))) → Unsafe a v (prefix ρ j) ⊎ T (unsafe a (ρ .position (suc j))) → (i : ℕ) × T (unsafe a (ρ .position i))
+      go :
+          (Unsafe a v (prefix ρ j) → (i : ℕ) × T (unsafe a (ρ .position i)))
+          → Unsafe a v (prefix ρ j) ⊎ T (unsafe a (ρ .position (suc j)))
+          → (i : ℕ) × T (unsafe a (ρ .position i))
       go earlier (inl u) = earlier u
       go earlier (inr u) = (suc j, u)
 
@@ -119,7 +123,10 @@ module _ (a : Arena) (wf : WellFormed a) (σ : Controller a) (v : ℕ) where
   )
 
   pub ω-resilience : Resilient a σ v ω ↔ Resilient a σ v ω+1
-  ω-resilience = (λ resilient. ω+1-resilience .1 (ω-resilience-is-safety resilient), λ resilient ρ consistent fewer. resilient ρ consistent tt)
+  ω-resilience = (
+    λ resilient. ω+1-resilience .1 (ω-resilience-is-safety resilient),
+    λ resilient ρ consistent fewer. resilient ρ consistent tt,
+  )
 
   -- both at once, for a value: resilient is worth at least
   pub resilient-is-at-least : (x : Value) → Resilient a σ v (ordinalOf x) ↔ AtLeast a σ v x
@@ -128,40 +135,51 @@ module _ (a : Arena) (wf : WellFormed a) (σ : Controller a) (v : ℕ) where
   resilient-is-at-least ever = Iff·trans ω+1-resilience (always-safe-is-at-least a σ v)
 
   -- no controller is more resilient than it is worth at most
+  below : (y x : Value) → Resilient a σ v (ordinalOf y) → AtMost a σ v x → y ≼ x
+  below y x resilient most = bounds-in-order a σ v y x (resilient-is-at-least y .0 resilient) most
+
   resilience-bounded : (x : Value) (β : Ordinal) → AtMost a σ v x → Resilient a σ v β → β ⊑ ordinalOf x
   unfolding ordinalOf
-  resilience-bounded x (finite j) most resilient = ordinals-in-order (fin j) x (bounds-in-order a σ v (fin j) x (resilient-is-at-least (fin j) .0 resilient) most)
-  resilience-bounded x ω most resilient = ω-below x (bounds-in-order a σ v ever x (resilient-is-at-least ever .0 (ω-resilience .0 resilient)) most)
-  resilience-bounded x ω+1 most resilient = ordinals-in-order ever x (bounds-in-order a σ v ever x (resilient-is-at-least ever .0 resilient) most)
+  resilience-bounded x (finite j) most resilient = ordinals-in-order (fin j) x (below (fin j) x resilient most)
+  resilience-bounded x ω most resilient = ω-below x (below ever x (ω-resilience .0 resilient) most)
+  resilience-bounded x ω+1 most resilient = ordinals-in-order ever x (below ever x resilient most)
 
 -- a positional controller is blind to the bits
 pub positional-strategy : (a : Arena) (choice : ℕ → Value) → Legal a choice → Strategy a
 unfolding positional
 positional-strategy a choice legal = record { acts = positional a choice legal; blind = λ v t. rw (forget-last v t) }
 
--- under a certificate the values are the journal's resiliences
-pub certificate-gives-resilience : (a : Arena) (wf : WellFormed a) (value choice step : ℕ → Value) (certificate : Certificate a value choice step) (v : ℕ) → v < size a → ResilienceIs a v (ordinalOf (value v))
-unfolding positional-strategy
-certificate-gives-resilience a wf value choice step certificate v inside =
-    let legal = certificate-is-legal a value choice step certificate in
-    let σ = positional a choice legal in
-    record {
-      strategy = positional-strategy a choice legal;
-      attained = resilient-is-at-least a wf σ v (value v) .1 (worth-is-both-bounds a σ v (value v) .0 (certificate-gives-worths a wf value choice step certificate legal v inside) .0);
-      supremum = λ τ β resilient. resilience-bounded a wf (τ .acts) v (value v) β (value-is-bounds a v (value v) .0 (certificate-gives-values a wf value choice step certificate v inside) .1 (τ .acts)) resilient;
-    }
-
 pub resilience-is-unique : (a : Arena) (v : ℕ) (α β : Ordinal) → ResilienceIs a v α → ResilienceIs a v β → α ≡ β
 resilience-is-unique a v α β p q = ⊑antisym α β (q .supremum (p .strategy) α (p .attained)) (p .supremum (q .strategy) β (q .attained))
 
--- T18: a value is the journal's resilience
-pub value-is-resilience : (a : Arena) (wf : WellFormed a) (value choice step : ℕ → Value) (certificate : Certificate a value choice step) (v : ℕ) → v < size a → (x : Value) → IsValue a v x ↔ ResilienceIs a v (ordinalOf x)
-value-is-resilience a wf value choice step certificate v inside x =
-    let here = certificate-gives-resilience a wf value choice step certificate v inside in
-    let right = certificate-gives-values a wf value choice step certificate v inside in (
-      λ i. subst (λ (y : Value). ResilienceIs a v (ordinalOf y)) (value-is-unique a v (value v) x right i) here,
-      λ r. subst (IsValue a v) (ordinal-injective (value v) x (resilience-is-unique a v (ordinalOf (value v)) (ordinalOf x) here r)) right,
-    )
+module _
+    (a : Arena) (wf : WellFormed a) (value choice step : ℕ → Value) (certificate : Certificate a value choice step)
+    (v : ℕ) (inside : v < size a)
+  where
+    -- under a certificate the values are the journal's resiliences
+    pub certificate-gives-resilience : ResilienceIs a v (ordinalOf (value v))
+    unfolding positional-strategy
+    certificate-gives-resilience =
+        let legal = certificate-is-legal a value choice step certificate in
+        let σ = positional a choice legal in
+        let worth = certificate-gives-worths a wf value choice step certificate legal v inside in
+        record {
+          strategy = positional-strategy a choice legal;
+          attained = resilient-is-at-least a wf σ v (value v) .1 (worth-is-both-bounds a σ v (value v) .0 worth .0);
+          supremum =
+              λ τ β resilient.
+              let at-most = certificate-gives-at-most a wf value choice step certificate (τ .acts) v inside in
+              resilience-bounded a wf (τ .acts) v (value v) β at-most resilient;
+        }
+
+    -- T18: a value is the journal's resilience
+    pub value-is-resilience : (x : Value) → IsValue a v x ↔ ResilienceIs a v (ordinalOf x)
+    value-is-resilience x =
+        let here = certificate-gives-resilience in
+        let right = certificate-gives-values a wf value choice step certificate v inside in (
+          λ i. subst (λ (y : Value). ResilienceIs a v (ordinalOf y)) (value-is-unique a v (value v) x right i) here,
+          λ r. subst (IsValue a v) (ordinal-injective (value v) x (resilience-is-unique a v (ordinalOf (value v)) (ordinalOf x) here r)) right,
+        )
 
 -- "The journal's value ω can't occur for safety"
 pub ω-does-not-occur : (a : Arena) → WellFormed a → (v : ℕ) → ResilienceIs a v ω → ⊥
