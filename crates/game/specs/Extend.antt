@@ -109,7 +109,7 @@ module _ (a : Arena) (σ : Controller a) (v : ℕ) where
         let n = passing .next (j + k) in
         rw (add-suc j k, n .trail) (le-trans (costs-more j k) (moved-costs a v (n .bit) (passing .at (j + k)) (n .target)))
 
-  -- a sequence of trails, with its end reached from the start
+  -- the trails f 0, f 1, .. are those that an unending play passes after its first moves, `length` of them
   record From (f : ℕ → Trail) : Type 0 where
     passing : Passing
     length : ℕ

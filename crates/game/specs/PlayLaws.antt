@@ -20,10 +20,6 @@ pub disturbance-costs : (a : Arena) (v w : ℕ) → 0 < disturbanceCost a v w
 disturbance-costs a v w = rw (disturbance-costs-one a v w) (omega arith)
 
 -- the two owners
-pub by-owner : (o : Owner) → (o ≡ controller) ⊎ (o ≡ environment)
-by-owner controller = inl refl
-by-owner environment = inr refl
-
 pub environment-is-not-controller : environment ≡ controller → ⊥
 environment-is-not-controller e = let z : _≡_ {A = ℕ} 0 1 = cc in omega arith
 

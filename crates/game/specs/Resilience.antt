@@ -78,7 +78,7 @@ module _ (a : Arena) (v : ℕ) (ρ : Unending a v) where
       (rw (prefix-last j) (ρ .edge j))
       (λ bit own. consistent j (rw (prefix-last j) at own) bit)
 
-  -- an unsafe prefix has an unsafe position, and the other way
+  -- an unsafe prefix has an unsafe position; so a play whose prefixes are safe is safe
   unsafe-prefix : (j : ℕ) → Unsafe a v (prefix ρ j) → (i : ℕ) × T (unsafe a (ρ .position i))
   unfolding prefix Unsafe
   unsafe-prefix zero u = (0, rw (ρ .starts) u)
