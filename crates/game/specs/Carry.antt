@@ -18,35 +18,49 @@ SameRow a row row′ = (v : ℕ) → v < size a → row v ≡ row′ v
 abbrev pub NeverFalls : Arena → (value choice : ℕ → Value) → Type 0
 NeverFalls a value choice = (v : ℕ) → v < size a → ownerAt a v ≡ controller → value v ≼ value (targetOf (choice v))
 
-module _ (a : Arena) (wf : WellFormed a) (value choice step value′ choice′ step′ : ℕ → Value) (values : SameRow a value value′) (steps : SameRow a step step′) where
-  carry-earlier : (w v : ℕ) → w < size a → v < size a → Earlier a value choice step w v → Earlier a value′ choice′ step′ w v
-  carry-earlier w v iw iv (inl less) = inl (subst₂ (λ (x y : Value). x ≺ y) (values w iw) (values v iv) less)
-  carry-earlier w v iw iv (inr (same, less)) = inr (sym (values w iw) ∙ same ∙ values v iv, subst₂ (λ (x y : Value). x ≺ y) (steps w iw) (steps v iv) less)
+module _
+    (a : Arena) (wf : WellFormed a) (value choice step value′ choice′ step′ : ℕ → Value)
+    (values : SameRow a value value′) (steps : SameRow a step step′)
+  where
+    carry-earlier : (w v : ℕ) → w < size a → v < size a → Earlier a value choice step w v → Earlier a value′ choice′ step′ w v
+    carry-earlier w v iw iv (inl less) = inl (subst₂ (λ (x y : Value). x ≺ y) (values w iw) (values v iv) less)
+    carry-earlier w v iw iv (inr (same, less)) =
+        inr (sym (values w iw) ∙ same ∙ values v iv, subst₂ (λ (x y : Value). x ≺ y) (steps w iw) (steps v iv) less)
 
-  carry-holding : (v : ℕ) (o : Owner) → v < size a → LegalAs o a v (choice′ v) → (o ≡ controller → value v ≼ value (targetOf (choice′ v))) → HoldingAs a value choice step o v → HoldingAs a value′ choice′ step′ o v
-  unfolding targetOf
-  carry-holding v controller inside legal keeps h = (
-    λ w e.
-        let m : Meant a v w = subst (Meant a v) (fin-injective (legal .0) w (sym (legal .1) ∙ e)) (legal .2) in
-        let low : value v ≼ value w = subst (λ (x : Value). value v ≼ value (targetOf x)) e (keeps refl) in
-        subst₂ (λ (x y : Value). x ≼ y) (values v inside) (values w (meant-inside a wf v w m)) low,
-    λ w d. subst₂ (λ (x y : Value). x ≼ y ⊕ disturbanceCost a v w) (values v inside) (values w (disturbance-inside a wf v w d)) (h .1 w d),
-  )
-  carry-holding v environment inside legal keeps h = λ w m. subst₂ (λ (x y : Value). x ≼ y) (values v inside) (values w (meant-inside a wf v w m)) (h w m)
+    carry-holding :
+        (v : ℕ) (o : Owner) → v < size a
+        → LegalAs o a v (choice′ v)
+        → (o ≡ controller → value v ≼ value (targetOf (choice′ v)))
+        → HoldingAs a value choice step o v
+        → HoldingAs a value′ choice′ step′ o v
+    unfolding targetOf
+    carry-holding v controller inside legal keeps h = (
+      λ w e.
+          let m : Meant a v w = subst (Meant a v) (fin-injective (legal .0) w (sym (legal .1) ∙ e)) (legal .2) in
+          let low : value v ≼ value w = subst (λ (x : Value). value v ≼ value (targetOf x)) e (keeps refl) in
+          subst₂ (λ (x y : Value). x ≼ y) (values v inside) (values w (meant-inside a wf v w m)) low,
+      λ w d. subst₂ (λ (x y : Value). x ≼ y ⊕ disturbanceCost a v w) (values v inside) (values w (disturbance-inside a wf v w d)) (h .1 w d),
+    )
+    carry-holding v environment inside legal keeps h =
+        λ w m. subst₂ (λ (x y : Value). x ≼ y) (values v inside) (values w (meant-inside a wf v w m)) (h w m)
 
-  carry-ruin : (v : ℕ) (o : Owner) → v < size a → RuinAs a value choice step o v → RuinAs a value′ choice′ step′ o v
-  carry-ruin v controller inside (inl (w, d, less)) =
-      inl (w, d, subst₂ (λ (x y : Value). x ⊕ disturbanceCost a v w ≼ y) (values w (disturbance-inside a wf v w d)) (values v inside) less)
-  carry-ruin v controller inside (inr all) = inr (λ w m. carry-earlier w v (meant-inside a wf v w m) inside (all w m))
-  carry-ruin v environment inside (w, m, less) = (w, m, carry-earlier w v (meant-inside a wf v w m) inside less)
+    carry-ruin : (v : ℕ) (o : Owner) → v < size a → RuinAs a value choice step o v → RuinAs a value′ choice′ step′ o v
+    carry-ruin v controller inside (inl (w, d, less)) =
+        inl (w, d, subst₂ (λ (x y : Value). x ⊕ disturbanceCost a v w ≼ y) (values w (disturbance-inside a wf v w d)) (values v inside) less)
+    carry-ruin v controller inside (inr all) = inr (λ w m. carry-earlier w v (meant-inside a wf v w m) inside (all w m))
+    carry-ruin v environment inside (w, m, less) = (w, m, carry-earlier w v (meant-inside a wf v w m) inside less)
 
-  pub certificate-carries : Certificate a value choice step → Legal a choice′ → NeverFalls a value choice′ → Certificate a value′ choice′ step′
-  certificate-carries certificate legal keeps v inside =
-      let c = certificate v inside in
-      record {
-        unsafe-zero = λ u. sym (values v inside) ∙ c .unsafe-zero u;
-        dash = (λ e. sym (values v inside) ∙ c .dash .0 (steps v inside ∙ e), λ e. sym (steps v inside) ∙ c .dash .1 (values v inside ∙ e));
-        legal = legal v inside;
-        holding = carry-holding v (ownerAt a v) inside (legal v inside) (keeps v inside) (c .holding);
-        ruin = λ safe k e. carry-ruin v (ownerAt a v) inside (c .ruin safe k (values v inside ∙ e));
-      }
+    pub certificate-carries :
+        Certificate a value choice step
+        → Legal a choice′
+        → NeverFalls a value choice′
+        → Certificate a value′ choice′ step′
+    certificate-carries certificate legal keeps v inside =
+        let c = certificate v inside in
+        record {
+          unsafe-zero = λ u. sym (values v inside) ∙ c .unsafe-zero u;
+          dash = (λ e. sym (values v inside) ∙ c .dash .0 (steps v inside ∙ e), λ e. sym (steps v inside) ∙ c .dash .1 (values v inside ∙ e));
+          legal = legal v inside;
+          holding = carry-holding v (ownerAt a v) inside (legal v inside) (keeps v inside) (c .holding);
+          ruin = λ safe k e. carry-ruin v (ownerAt a v) inside (c .ruin safe k (values v inside ∙ e));
+        }

@@ -26,6 +26,8 @@ pub mod Carry
 pub mod Prepend
 pub mod Optimal
 pub mod RestrictLaws
+pub mod Extend
+pub mod Resilience
 pub mod MoveTests
 pub mod PlacementLaws
 pub mod TableLaws

@@ -5,7 +5,7 @@ use native.Mathlib.Decide.{decLt}
 use native.Mathlib.Omega.{arith}
 use mathlib.Core.Path.{_≡_, refl, sym, subst}
 use mathlib.Core.List.{List, [], _∷_, List·Memᴰ, List·Memᴰ·head, List·Memᴰ·tail, List·Memᴰ·not-nil, List·Memᴰ·cases-cons}
-use mathlib.Core.Logic.{⊎-elim}
+use mathlib.Core.Logic.{_⊎_, inl, inr}
 use mathlib.Core.Bool.{Bool, true, false, cond, _&&_}
 use lib.Dec.{T, eqb, lit<}
 use Rattle.game.specs.Arena.{Arena, Move, controller, size, ownerAt, meantMove, disturbanceMove, Meant, mayBeDisturbed, WellFormed}
@@ -43,7 +43,11 @@ OfEach P (m ∷ ms) = P m × OfEach P ms
 
 of-each : (P : Move → Type 0) (ms : List Move) → OfEach P ms → (m : Move) → List·Memᴰ m ms → P m
 of-each P [] h m i = absurd (List·Memᴰ·not-nil i)
-of-each P (x ∷ ms) h m i = ⊎-elim (λ (e : m ≡ x). subst P (sym e) (h .0)) (λ (j : List·Memᴰ m ms). of-each P ms (h .1) m j) (List·Memᴰ·cases-cons i)
+of-each P (x ∷ ms) h m i = go (of-each P ms (h .1) m) (List·Memᴰ·cases-cons i)
+  where
+    go : (List·Memᴰ m ms → P m) → (m ≡ x) ⊎ List·Memᴰ m ms → P m
+    go rest (inl e) = subst P (sym e) (h .0)
+    go rest (inr j) = rest j
 
 -- a disturbance occurred on the trail
 wasDisturbed : Trail → Bool
@@ -71,7 +75,8 @@ pair-is-well-formed =
       kind = of-each (λ m. m .cost < 2) (pair .moves) (lit< tt, (lit< tt, (lit< tt, (lit< tt, tt))));
       from-position = of-each (λ m. m .from < 2) (pair .moves) (lit< tt, (lit< tt, (lit< tt, (lit< tt, tt))));
       to-position = of-each (λ m. m .to < 2) (pair .moves) (lit< tt, (lit< tt, (lit< tt, (lit< tt, tt))));
-      disturbed = λ v w. of-each (λ m. T (mayBeDisturbed (ownerAt pair (m .from)))) (pair .moves) (tt, (tt, (tt, (tt, tt)))) (disturbanceMove v w);
+      disturbed =
+          λ v w. of-each (λ m. T (mayBeDisturbed (ownerAt pair (m .from)))) (pair .moves) (tt, (tt, (tt, (tt, tt)))) (disturbanceMove v w);
       meant = λ v inside. (pickAt false v, pick-at-is-meant false v inside);
     }
 

@@ -26,20 +26,36 @@ abbrev pub WorthsAre : (a : Arena) → Controller a → (ℕ → Value) → Type
 WorthsAre a σ value = (v : ℕ) → v < size a → WorthIs a σ v (value v)
 
 -- optimal: the controller has a worth at every position, and none is worth more there
+pub record UnsurpassedAt (a : Arena) (σ : Controller a) (v : ℕ) : Type 0 where
+  pub worth : Value
+  pub attained : WorthIs a σ v worth
+  pub greatest : (τ : Controller a) (y : Value) → WorthIs a τ v y → y ≼ worth
+
 abbrev pub Unsurpassed : (a : Arena) → Controller a → Type 0
-Unsurpassed a σ = (v : ℕ) → v < size a → (x : Value) × WorthIs a σ v x × ((τ : Controller a) (y : Value) → WorthIs a τ v y → y ≼ x)
+Unsurpassed a σ = (v : ℕ) → v < size a → UnsurpassedAt a σ v
 
 pub optimal-both-ways : (a : Arena) (value : ℕ → Value) (σ : Controller a) → RightValues a value → WorthsAre a σ value ↔ Unsurpassed a σ
-optimal-both-ways a value σ right = (λ worths v inside. (value v, worths v inside, λ τ y q. worth-at-most-value a v τ (value v) y (right v inside) q), λ best v inside. same v (right v inside) (best v inside))
+optimal-both-ways a value σ right = (
+  λ worths v inside. best v (right v inside) (worths v inside),
+  λ bests v inside. worth v (right v inside) (bests v inside),
+)
   where
-    same : (v : ℕ) → IsValue a v (value v) → (x : Value) × WorthIs a σ v x × ((τ : Controller a) (y : Value) → WorthIs a τ v y → y ≼ x) → WorthIs a σ v (value v)
-    same v i (x, w, most) =
+    best : (v : ℕ) → IsValue a v (value v) → WorthIs a σ v (value v) → UnsurpassedAt a σ v
+    best v i w = record { worth = value v; attained = w; greatest = λ τ y q. worth-at-most-value a v τ (value v) y i q }
+
+    worth : (v : ℕ) → IsValue a v (value v) → UnsurpassedAt a σ v → WorthIs a σ v (value v)
+    worth v i b =
         let g = value-is-greatest a v (value v) i in
-        subst (λ (y : Value). WorthIs a σ v y) (≼antisym x (value v) (g .greatest σ x w) (most (g .best) (value v) (g .attained))) w
+        let same = ≼antisym (b .worth) (value v) (g .greatest σ (b .worth) (b .attained)) (b .greatest (g .best) (value v) (g .attained)) in
+        subst (λ (y : Value). WorthIs a σ v y) same (b .attained)
 
 module _ (a : Arena) (choice : ℕ → Value) (legal : Legal a choice) where
   -- from a position of its own the row's controller is worth at most what it is worth at the target
-  pub at-most-target : (v : ℕ) (x : Value) → v < size a → ownerAt a v ≡ controller → AtMost a (positional a choice legal) (targetOf (choice v)) x → AtMost a (positional a choice legal) v x
+  pub at-most-target :
+      (v : ℕ) (x : Value) → v < size a
+      → ownerAt a v ≡ controller
+      → AtMost a (positional a choice legal) (targetOf (choice v)) x
+      → AtMost a (positional a choice legal) v x
   unfolding AtMost
   at-most-target v (fin k) inside own (u, h) =
       let w = targetOf (choice v) in
@@ -59,7 +75,9 @@ module _ (a : Arena) (choice : ℕ → Value) (legal : Legal a choice) where
       let σ = positional a choice legal in
       let w = targetOf (choice v) in
       let there = worths w (meant-inside a wf v w (picked a choice v own (legal v inside))) in
-      bounds-in-order a σ v (value v) (value w) (worth-is-both-bounds a σ v (value v) .0 (worths v inside) .0) (at-most-target v (value w) inside own (worth-is-both-bounds a σ w (value w) .0 there .1))
+      let at-least = worth-is-both-bounds a σ v (value v) .0 (worths v inside) .0 in
+      let at-most = at-most-target v (value w) inside own (worth-is-both-bounds a σ w (value w) .0 there .1) in
+      bounds-in-order a σ v (value v) (value w) at-least at-most
 
 -- T7 over the steps of any certificate
 pub optimal-choices-have-certificate :
@@ -71,7 +89,8 @@ pub optimal-choices-have-certificate :
     → WorthsAre a (positional a choice′ legal) value′
     → Certificate a value′ choice′ step′
 optimal-choices-have-certificate a wf value choice step value′ choice′ step′ certificate right steps legal worths =
-    certificate-carries a wf value choice step value′ choice′ step′ same steps certificate legal (optimal-never-falls a choice′ legal value wf (λ v inside. rw (same v inside) (worths v inside)))
+    let never-falls = optimal-never-falls a choice′ legal value wf (λ v inside. rw (same v inside) (worths v inside)) in
+    certificate-carries a wf value choice step value′ choice′ step′ same steps certificate legal never-falls
   where
     same : SameRow a value value′
-    same v inside = value-is-unique a v (value v) (value′ v) (certificate-gives-values a wf value choice step certificate v inside) (right v inside)
+    same v inside = value-is-unique a v _ _ (certificate-gives-values a wf value choice step certificate v inside) (right v inside)

@@ -2,11 +2,12 @@
 -- something, and only a controller's position is disturbed.
 use Prim.Native.Nat.{ℕ, _<_}
 use native.Mathlib.Omega.{arith}
-use mathlib.Core.Path.{_≡_, refl}
+use mathlib.Core.Path.{_≡_, refl, sym}
 use mathlib.Core.Logic.{_⊎_, inl, inr}
 use mathlib.Core.Bool.{Bool, true, false}
 use lib.Dec.{T}
-use Rattle.game.specs.Value.{Value}
+use Rattle.game.specs.Value.{Value, fin, ever}
+use Rattle.game.specs.ValueLaws.{fin-is-not-ever}
 use Rattle.game.specs.Arena.{Arena, Owner, controller, environment, size, ownerAt, unsafe, meantMove, disturbanceMove, Meant, Disturbance, mayBeDisturbed, WellFormed}
 use Rattle.game.specs.Play.{Trail, still, meant, disturbed, last, disturbanceCost, Controller, Play, Unsafe, Legal, positional, targetOf}
 
@@ -19,9 +20,8 @@ pub disturbance-costs : (a : Arena) (v w : ℕ) → 0 < disturbanceCost a v w
 disturbance-costs a v w = rw (disturbance-costs-one a v w) (omega arith)
 
 -- the two owners
-pub by-owner : (o : Owner) → (o ≡ controller) ⊎ (o ≡ environment)
-by-owner controller = inl refl
-by-owner environment = inr refl
+pub environment-is-not-controller : environment ≡ controller → ⊥
+environment-is-not-controller e = let z : _≡_ {A = ℕ} 0 1 = cc in omega arith
 
 pub may-be-disturbed : (o : Owner) → T (mayBeDisturbed o) → o ≡ controller
 may-be-disturbed controller h = refl
@@ -62,6 +62,14 @@ module _ (a : Arena) (wf : WellFormed a) where
   stays-inside σ v (disturbed t w) p = disturbance-inside (last v t) w (p .1)
 
 -- what the controller of a row picks
-pub positional-pick : (a : Arena) (choice : ℕ → Value) (legal : Legal a choice) (v : ℕ) (t : Trail) → positional a choice legal .pick v t ≡ targetOf (choice (last v t))
+pub positional-pick :
+    (a : Arena) (choice : ℕ → Value) (legal : Legal a choice) (v : ℕ) (t : Trail)
+    → positional a choice legal .pick v t ≡ targetOf (choice (last v t))
 unfolding positional
 positional-pick a choice legal v t = refl
+
+-- a choice that names a target names the one that it is read as
+pub target-is-named : (x : Value) (w : ℕ) → x ≡ fin w → x ≡ fin (targetOf x)
+unfolding targetOf
+target-is-named (fin k) w e = refl
+target-is-named ever w e = absurd (fin-is-not-ever w (sym e))

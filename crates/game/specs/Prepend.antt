@@ -33,9 +33,12 @@ after-unsafe a v w (meant t x) (inr u) = inr u
 after-unsafe a v w (disturbed t x) (inl u) = inl (after-unsafe a v w t u)
 after-unsafe a v w (disturbed t x) (inr u) = inr u
 
-module _ (a : Arena) (choice : ℕ → Value) (legal : Legal a choice) (v w : ℕ) (inside : v < size a) (m : Meant a v w) (allowed : Allows (ownerAt a v) (targetOf (choice v)) w) where
-  pub after-play : (t : Trail) → Play a (positional a choice legal) w t → Play a (positional a choice legal) v (after w t)
-  unfolding after last Play positional
-  after-play still p = (inside, m, allowed)
-  after-play (meant t u) p = (after-play t (p .0), rw (after-last v w t) (p .1), rw (after-last v w t) (p .2))
-  after-play (disturbed t u) p = (after-play t (p .0), rw (after-last v w t) (p .1))
+module _
+    (a : Arena) (choice : ℕ → Value) (legal : Legal a choice)
+    (v w : ℕ) (inside : v < size a) (m : Meant a v w) (allowed : Allows (ownerAt a v) (targetOf (choice v)) w)
+  where
+    pub after-play : (t : Trail) → Play a (positional a choice legal) w t → Play a (positional a choice legal) v (after w t)
+    unfolding after last Play positional
+    after-play still p = (inside, m, allowed)
+    after-play (meant t u) p = (after-play t (p .0), rw (after-last v w t) (p .1), rw (after-last v w t) (p .2))
+    after-play (disturbed t u) p = (after-play t (p .0), rw (after-last v w t) (p .1))

@@ -9,37 +9,48 @@ use lib.Dec.{T}
 use Rattle.game.specs.Value.{Value, fin, ever, eqV}
 use Rattle.game.specs.Arena.{Arena, Move, Owner, controller, environment, ownerAt, meantMove, disturbanceMove, Meant, Disturbance, WellFormed}
 use Rattle.game.specs.Play.{Trail, still, meant, disturbed, last, cost, disturbanceCost, Controller, Allows, Play, Unsafe, LegalAs, Legal, positional, targetOf}
-use Rattle.game.specs.Worth.{WorthIs, AtMost, IsValue}
+use Rattle.game.specs.Worth.{UnsafePlay, WorthIs, AtMost, IsValue}
 use Rattle.game.specs.Restrict.{stays, keep, restricted, isController}
-use Rattle.game.specs.ValueLaws.{eqV-sound, fin-injective, fin-is-not-ever}
+use Rattle.game.specs.ValueLaws.{eqV-sound, fin-injective}
 use Rattle.game.specs.Bounds.{AtLeast, worth-is-both-bounds, value-is-bounds}
 use Rattle.game.specs.Memory.{some-controller}
-use Rattle.game.specs.PlayLaws.{disturbance-costs-one}
+use Rattle.game.specs.PlayLaws.{disturbance-costs-one, target-is-named}
 
 -- the moves kept are those of the row that pass the test
-pub kept : (p : Move → Bool) (ms : List Move) (m : Move) → List·Memᴰ m (keep p ms) → List·Memᴰ m ms × T (p m)
+abbrev pub Passes : (Move → Bool) → Move → List Move → Type 0
+Passes p m ms = List·Memᴰ m ms × T (p m)
+
+pub kept : (p : Move → Bool) (ms : List Move) (m : Move) → List·Memᴰ m (keep p ms) → Passes p m ms
 unfolding keep
 kept p [] m i = absurd (List·Memᴰ·not-nil i)
-kept p (x ∷ xs) m i = split (p x) refl i (kept p xs m)
+kept p (x ∷ xs) m i = split (p x) refl (kept p xs m) i
   where
-    first : p x ≡ true → (List·Memᴰ m (keep p xs) → List·Memᴰ m xs × T (p m)) → (m ≡ x) ⊎ List·Memᴰ m (keep p xs) → List·Memᴰ m (x ∷ xs) × T (p m)
+    first : p x ≡ true → (List·Memᴰ m (keep p xs) → Passes p m xs) → (m ≡ x) ⊎ List·Memᴰ m (keep p xs) → Passes p m (x ∷ xs)
     first e rest (inl q) = (List·Memᴰ·head q, subst T (sym (ap p q ∙ e)) tt)
     first e rest (inr j) = (List·Memᴰ·tail (rest j .0), rest j .1)
 
-    split : (b : Bool) → p x ≡ b → List·Memᴰ m (cond b (x ∷ keep p xs) (keep p xs)) → (List·Memᴰ m (keep p xs) → List·Memᴰ m xs × T (p m)) → List·Memᴰ m (x ∷ xs) × T (p m)
-    split true e i rest = first e rest (List·Memᴰ·cases-cons i)
-    split false e i rest = (List·Memᴰ·tail (rest i .0), rest i .1)
+    split :
+        (b : Bool) → p x ≡ b
+        → (List·Memᴰ m (keep p xs) → Passes p m xs)
+        → List·Memᴰ m (cond b (x ∷ keep p xs) (keep p xs))
+        → Passes p m (x ∷ xs)
+    split true e rest i = first e rest (List·Memᴰ·cases-cons i)
+    split false e rest i = (List·Memᴰ·tail (rest i .0), rest i .1)
 
 pub passed : (p : Move → Bool) (ms : List Move) (m : Move) → List·Memᴰ m ms → T (p m) → List·Memᴰ m (keep p ms)
 unfolding keep
 passed p [] m i h = absurd (List·Memᴰ·not-nil i)
-passed p (x ∷ xs) m i h = split (p x) refl (List·Memᴰ·cases-cons i) (λ j. passed p xs m j h)
+passed p (x ∷ xs) m i h = split (p x) refl (λ j. passed p xs m j h) (List·Memᴰ·cases-cons i)
   where
-    split : (b : Bool) → p x ≡ b → (m ≡ x) ⊎ List·Memᴰ m xs → (List·Memᴰ m xs → List·Memᴰ m (keep p xs)) → List·Memᴰ m (cond b (x ∷ keep p xs) (keep p xs))
-    split true e (inl q) rest = List·Memᴰ·head q
-    split true e (inr j) rest = List·Memᴰ·tail (rest j)
-    split false e (inl q) rest = absurd (subst T (ap p q ∙ e) h)
-    split false e (inr j) rest = rest j
+    split :
+        (b : Bool) → p x ≡ b
+        → (List·Memᴰ m xs → List·Memᴰ m (keep p xs))
+        → (m ≡ x) ⊎ List·Memᴰ m xs
+        → List·Memᴰ m (cond b (x ∷ keep p xs) (keep p xs))
+    split true e rest (inl q) = List·Memᴰ·head q
+    split true e rest (inr j) = List·Memᴰ·tail (rest j)
+    split false e rest (inl q) = absurd (subst T (ap p q ∙ e) h)
+    split false e rest (inr j) = rest j
 
 module _ (a : Arena) (choice : ℕ → Value) where
   -- A meant move stays where it is the choice or the position isn't the controller's; a disturbance stays.
@@ -60,7 +71,10 @@ module _ (a : Arena) (choice : ℕ → Value) where
 
   pub restricted-disturbance : (v w : ℕ) → Disturbance (restricted a choice) v w ↔ Disturbance a v w
   unfolding restricted stays
-  restricted-disturbance v w = (λ i. kept (stays a choice) (a .moves) (disturbanceMove v w) i .0, λ i. passed (stays a choice) (a .moves) (disturbanceMove v w) i tt)
+  restricted-disturbance v w = (
+    λ i. kept (stays a choice) (a .moves) (disturbanceMove v w) i .0,
+    λ i. passed (stays a choice) (a .moves) (disturbanceMove v w) i tt,
+  )
 
   -- no move is added
   pub restricted-moves : (m : Move) → List·Memᴰ m (restricted a choice .moves) → List·Memᴰ m (a .moves)
@@ -93,12 +107,6 @@ module _ (a : Arena) (choice : ℕ → Value) where
   some-stays controller v (w, e, m) some = (w, (m, e))
   some-stays environment v dash (w, m) = (w, (m, tt))
 
-  -- a choice that names a target names the one that it names
-  named : (x : Value) (w : ℕ) → x ≡ fin w → x ≡ fin (targetOf x)
-  unfolding targetOf
-  named (fin k) w e = refl
-  named ever w e = absurd (fin-is-not-ever w (sym e))
-
   module _ (wf : WellFormed a) (legal : Legal a choice) where
     pub restricted-is-well-formed : WellFormed (restricted a choice)
     unfolding restricted
@@ -127,7 +135,8 @@ module _ (a : Arena) (choice : ℕ → Value) where
       restricted-play v (meant t w) =
           let u = last v t in
           let picked = stays-is-allowed (ownerAt a u) u (τ .pick v t) w (pick-is-choice v t) in
-          let chosen = stays-is-allowed (ownerAt a u) u (targetOf (choice u)) w (λ own. named (choice u) (τ .pick v t) (pick-is-choice v t own)) in (
+          let named : ownerAt a u ≡ controller → choice u ≡ fin (targetOf (choice u)) = λ own. target-is-named (choice u) _ (pick-is-choice v t own) in
+          let chosen = stays-is-allowed (ownerAt a u) u (targetOf (choice u)) w named in (
             λ p. (restricted-play v t .0 (p .0), restricted-meant u w .0 (p .1) .0, chosen .0 (picked .1 (p .2))),
             λ p. (restricted-play v t .1 (p .0), restricted-meant u w .1 (p .1, chosen .1 (p .2)), picked .0 (chosen .1 (p .2))),
           )
@@ -145,13 +154,15 @@ module _ (a : Arena) (choice : ℕ → Value) where
       restricted-at-most : (v : ℕ) (x : Value) → AtMost (restricted a choice) τ v x ↔ AtMost a (positional a choice legal) v x
       unfolding AtMost
       restricted-at-most v (fin k) = (
-        λ h.
-            let t = h .0 .trail in
-            (record { trail = t; play = restricted-play v t .0 (h .0 .play); ends = restricted-unsafe v t .0 (h .0 .ends) }, rw (restricted-cost v t) at (h .1)),
-        λ h.
-            let t = h .0 .trail in
-            (record { trail = t; play = restricted-play v t .1 (h .0 .play); ends = restricted-unsafe v t .1 (h .0 .ends) }, rw (restricted-cost v t) (h .1)),
+        λ h. (there v (h .0), rw (restricted-cost v (h .0 .trail)) at (h .1)),
+        λ h. (back v (h .0), rw (restricted-cost v (h .0 .trail)) (h .1)),
       )
+        where
+          there : (v : ℕ) → UnsafePlay (restricted a choice) τ v → UnsafePlay a (positional a choice legal) v
+          there v u = record { trail = u .trail; play = restricted-play v (u .trail) .0 (u .play); ends = restricted-unsafe v (u .trail) .0 (u .ends) }
+
+          back : (v : ℕ) → UnsafePlay a (positional a choice legal) v → UnsafePlay (restricted a choice) τ v
+          back v u = record { trail = u .trail; play = restricted-play v (u .trail) .1 (u .play); ends = restricted-unsafe v (u .trail) .1 (u .ends) }
       restricted-at-most v ever = (λ h. tt, λ h. tt)
 
     -- T8
@@ -160,9 +171,9 @@ module _ (a : Arena) (choice : ℕ → Value) where
         let σ = positional a choice legal in
         let τ = some-controller (restricted a choice) restricted-is-well-formed in (
           λ h.
-              let b = value-is-bounds (restricted a choice) v x .0 h in
-              worth-is-both-bounds a σ v x .1 (restricted-at-least (b .0 .0) v x .0 (b .0 .1), restricted-at-most τ v x .0 (b .1 τ)),
+              let ((ρ, low), most) = value-is-bounds (restricted a choice) v x .0 h in
+              worth-is-both-bounds a σ v x .1 (restricted-at-least ρ v x .0 low, restricted-at-most ρ v x .0 (most ρ)),
           λ h.
-              let b = worth-is-both-bounds a σ v x .0 h in
-              value-is-bounds (restricted a choice) v x .1 ((τ, restricted-at-least τ v x .1 (b .0)), λ ρ. restricted-at-most ρ v x .1 (b .1)),
+              let (low, most) = worth-is-both-bounds a σ v x .0 h in
+              value-is-bounds (restricted a choice) v x .1 ((τ, restricted-at-least τ v x .1 low), λ ρ. restricted-at-most ρ v x .1 most),
         )

@@ -216,6 +216,13 @@ unfolding _≼_ _⊕_
 ⊕grows (fin k) c = omega arith
 ⊕grows ever c = tt
 
+-- bounds with costs, one after the other
+pub ⊕≼trans : (x y z : Value) (b c : ℕ) → x ≼ y ⊕ b → y ≼ z ⊕ c → x ≼ z ⊕ (b + c)
+⊕≼trans x y z b c p q = ≼trans x (y ⊕ b) (z ⊕ (b + c)) p (rw (⊕swap z c b, ⊕assoc z b c) at (⊕mono y (z ⊕ c) b b q (omega arith)))
+
+pub ≼⊕trans : (x y z : Value) (b c : ℕ) → x ⊕ b ≼ y → y ⊕ c ≼ z → x ⊕ (c + b) ≼ z
+≼⊕trans x y z b c p q = ≼trans (x ⊕ (c + b)) (y ⊕ c) z (rw (⊕swap x b c, ⊕assoc x c b) at (⊕mono (x ⊕ b) y c c p (omega arith))) q
+
 -- a sum that is finite has a finite part
 pub ⊕below : (x : Value) (c k : ℕ) → x ⊕ c ≼ fin k → (j : ℕ) × (x ≡ fin j) × (j + c ≤ k)
 unfolding _≼_ _⊕_
