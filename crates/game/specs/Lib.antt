@@ -40,5 +40,7 @@ pub mod BestLaws
 pub mod RoundHolding
 pub mod RoundRuin
 pub mod RoundCertificate
+pub mod RoundValues
 pub mod ConditionTests
 pub mod FaultLaws
+pub mod WellFormedTest

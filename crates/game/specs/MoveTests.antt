@@ -75,6 +75,14 @@ some-of p (x ∷ ms) m mem h = go (List·Memᴰ·cases-cons mem) (λ mem′. som
     go (inl e) below = here (p x) (subst (λ (y : Move). T (p y)) e h)
     go (inr mem′) below = pass (p x) (below mem′)
 
+pub every-found : (p : Move → Bool) (ms : List Move) (m : Move) → T (everyMove p ms) → List·Memᴰ m ms → T (p m)
+unfolding everyMove
+every-found p ms m h mem = go (passes-or-fails (p m))
+  where
+    go : T (p m) ⊎ T (not (p m)) → T (p m)
+    go (inl t) = t
+    go (inr f) = absurd (T-not (someMove (λ x. not (p x)) ms) h (some-of (λ x. not (p x)) ms m mem f))
+
 -- the moves from v of one cost c
 module _ (c v : ℕ) where
   abbrev target : ℕ → Move
@@ -112,16 +120,11 @@ module _ (c v : ℕ) (q : ℕ → Bool) (ms : List Move) where
   of-some-target w mem h = some-of (λ m. costs c v m && q (m .to)) ms (target c v w) mem (and-both (costs c v (target c v w)) (q w) (target-costs c v w) h)
 
   every-target : T (everyMove (λ m. not (costs c v m) || q (m .to)) ms) → (w : ℕ) → List·Memᴰ (target c v w) ms → T (q w)
-  unfolding everyMove
-  every-target h w mem = go (passes-or-fails (q w))
+  every-target h w mem = go (costs c v (target c v w)) (target-costs c v w) (every-found (λ m. not (costs c v m) || q (m .to)) ms (target c v w) h mem)
     where
-      counts : (b : Bool) → T b → T (not (q w)) → T (not (not b || q w))
-      counts true t f = f
-      counts false t f = absurd t
-
-      go : T (q w) ⊎ T (not (q w)) → T (q w)
-      go (inl t) = t
-      go (inr f) = absurd (T-not (someMove (λ m. not (not (costs c v m) || q (m .to))) ms) h (some-of (λ m. not (not (costs c v m) || q (m .to))) ms (target c v w) mem (counts (costs c v (target c v w)) (target-costs c v w) f)))
+      go : (b : Bool) → T b → T (not b || q w) → T (q w)
+      go true t r = r
+      go false t r = absurd t
 
   of-every-target : ((w : ℕ) → List·Memᴰ (target c v w) ms → T (q w)) → T (everyMove (λ m. not (costs c v m) || q (m .to)) ms)
   unfolding everyMove
