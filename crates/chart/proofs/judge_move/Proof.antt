@@ -1,0 +1,51 @@
+-- `chart::judge_move` meets its contract: the tests say which case of `judgedMove` holds.
+use Rattle.field.proofs.Cases.{cases}
+use Rattle.chart.specs.Examined.{judgedMove}
+use borrow.Author.Tests.{not-true, not-false}
+use borrow.Author.Needs.{needs}
+use Rattle.chart.proofs.judge_move.Statement.{statement}
+use Rattle.chart.proofs.judge_move.Tie as tie
+use Rattle.chart.proofs.judge_order.Reads as judge-order-reads
+
+returns : tie.Need-returns
+unfolding judgedMove
+returns c = simp (not-true (c .before .args .ok) (c .if1 .taken))
+
+returns-2 : tie.Need-returns-2
+unfolding judgedMove
+returns-2 c = simp (not-false (c .before .before .args .ok) (c .before .if1 .left)) (search cases)
+
+returns-3 : tie.Need-returns-3
+unfolding judgedMove
+returns-3 c = simp (not-false (c .before .before .before .args .ok) (c .before .before .if1 .left)) (search cases)
+
+returns-4 : tie.Need-returns-4
+unfolding judgedMove
+returns-4 c = simp (not-false (c .before .before .before .before .before .args .ok) (c .before .before .before .before .if1 .left)) (search cases)
+
+judge-order-requires : tie.Need-judge-order-requires
+judge-order-requires c κs = search needs
+
+returns-5 : tie.Need-returns-5
+unfolding judgedMove
+returns-5 c = simp (not-false (c .before .before .before .before .before .before .args .ok) (c .before .before .before .before .before .if1 .left)) (search cases)
+
+judge-order-requires-2 : tie.Need-judge-order-requires-2
+judge-order-requires-2 c κs = search needs
+
+returns-6 : tie.Need-returns-6
+unfolding judgedMove
+returns-6 c = simp (not-false (c .before .before .before .before .before .args .ok) (c .before .before .before .before .if1 .left)) (search cases)
+
+pub judge-move-spec : {M : Type 1} → statement M
+judge-move-spec =
+    tie.close
+    (tie.spec
+    returns
+    returns-2
+    returns-3
+    returns-4
+    judge-order-requires
+    returns-5
+    judge-order-requires-2
+    returns-6)

@@ -1,0 +1,26 @@
+-- `chart::number` meets its contract: by the cases of the field.
+use Rattle.field.proofs.Cases.{cases}
+use Rattle.chart.specs.Text.{numberOf}
+use borrow.Author.Needs.{needs}
+use Rattle.chart.proofs.number.Statement.{statement}
+use Rattle.chart.proofs.number.Tie as tie
+
+enum-known-f : tie.Need-enum-known-f
+enum-known-f c = search needs
+
+cast-result : tie.Need-cast-result
+cast-result c = search needs
+
+enum-told : tie.Need-enum-told
+enum-told c = search needs
+
+returns : tie.Need-returns
+unfolding numberOf
+returns c = search cases
+
+returns-2 : tie.Need-returns-2
+unfolding numberOf
+returns-2 c = search cases
+
+pub number-spec : {M : Type 1} → statement M
+number-spec = tie.close (tie.spec enum-known-f cast-result enum-told returns returns-2)

@@ -1,0 +1,26 @@
+-- Laws of a line's columns: a field's number is at most 99,999.
+use Prim.Native.Nat.{ℕ, _+_, _*_, _≤_}
+use native.Mathlib.Omega.{arith}
+use mathlib.Core.Path.{_≡_, refl, subst}
+use mathlib.Core.List.{List}
+use Rattle.field.specs.Text.{fieldAt, five}
+use Rattle.field.specs.Laws.{reads-number}
+use Rattle.field.specs.declared.Field.{Field}
+use Rattle.field.specs.declared.Field.the-variants.{Number, Bad}
+use Rattle.chart.specs.Text.{firstAt, secondAt, numberOf, fromAt, toAt}
+
+number-small : (text : List ℕ) (at : ℕ) → numberOf (fieldAt text at) ≤ 99999
+unfolding numberOf fieldAt five
+number-small text at = go (fieldAt text at) refl
+  where
+    go : (f : Field) → fieldAt text at ≡ f → numberOf f ≤ 99999
+    go (Number x) e = reads-number (five text at) x refl e .1
+    go Bad e = omega arith
+
+pub from-small : (text : List ℕ) (i : ℕ) → fromAt text i ≤ 99999
+unfolding fromAt firstAt
+from-small text i = number-small text (i * 12 + 1)
+
+pub to-small : (text : List ℕ) (i : ℕ) → toAt text i ≤ 99999
+unfolding toAt secondAt
+to-small text i = number-small text (i * 12 + 6)

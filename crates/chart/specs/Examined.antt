@@ -1,0 +1,152 @@
+-- The answer to any text, computed: the first fault in document 01's order ("Order: 1; then line by line 2 before the rest, 3
+-- before 4, and 6, 7, 8; then 9"), one function for each line, or the counts. That it is the first of the conditions of
+-- specs/Refusals.antt is proved in specs/Exact.antt.
+use Prim.Native.Nat.{ℕ, zero, suc, _+_, _-_, _*_, _%_}
+use mathlib.Core.Bool.{Bool, true, false, cond}
+use mathlib.Core.List.{List}
+use lib.ListN.{length, getD}
+use lib.Dec.{ltb, leb, eqb}
+use Rattle.field.specs.declared.Field.{Field}
+use Rattle.chart.specs.Text.{letterAt, firstAt, secondAt, endAt, markAt, numberOf, isNumber, positionsOf, movesOf, fromAt, toAt}
+use Rattle.chart.specs.Meaning.{costOf}
+use Rattle.chart.specs.declared.Chart.{Chart}
+use Rattle.chart.specs.declared.Refusal.{Refusal}
+use Rattle.chart.specs.declared.Refusal.the-variants.{Length, Form, Limits, Count, Sequence, Endpoint, Disturbed, Order, NoMeant}
+use Rattle.chart.specs.declared.Finding.{Finding}
+use Rattle.chart.specs.declared.Finding.the-variants.{Clean, Fault}
+use Rattle.chart.specs.declared.Examination.{Examination}
+use Rattle.chart.specs.declared.Examination.the-variants.{Accepted, Refused}
+
+-- both fields are numbers, and a line feed ends the line
+unfoldable pub numbered : Field → Field → ℕ → Bool
+numbered first second end = cond (isNumber first) (cond (isNumber second) (eqb end 10) false) false
+
+-- the letter is a or b besides
+unfoldable pub formed : ℕ → Field → Field → ℕ → ℕ → ℕ → Bool
+formed letter first second end a b =
+    cond (eqb letter a) (numbered first second end) (cond (eqb letter b) (numbered first second end) false)
+
+-- the form of the header (`H`), of a position line (`O`, `L`) and of a move line (`M`, `D`)
+unfoldable pub headerFormed : List ℕ → Bool
+headerFormed text = formed (letterAt text 0) (firstAt text 0) (secondAt text 0) (endAt text 0) 72 72
+
+unfoldable pub positionFormed : List ℕ → ℕ → Bool
+positionFormed text i = formed (letterAt text i) (firstAt text i) (markAt text i) (endAt text i) 79 76
+
+unfoldable pub moveFormed : List ℕ → ℕ → Bool
+moveFormed text i = formed (letterAt text i) (firstAt text i) (secondAt text i) (endAt text i) 77 68
+
+-- refusals 2, 3 and 4 on line 0, or the counts
+unfoldable pub limitsOf : Bool → ℕ → ℕ → ℕ → Examination
+limitsOf ok size n m =
+    cond ok
+    (cond (ltb n 1) (Refused Limits)
+    (cond (ltb 512 n) (Refused Limits)
+    (cond (ltb m 1) (Refused Limits)
+    (cond (ltb 4096 m) (Refused Limits)
+    (cond (eqb size ((1 + n + m) * 12)) (Accepted (record { positions = n; moves = m }))
+    (Refused Count))))))
+    (Refused (Form 0))
+
+unfoldable pub headerOf : List ℕ → Examination
+headerOf text = limitsOf (headerFormed text) (length text) (positionsOf text) (movesOf text)
+
+-- refusal 2, then 5: the numbers are in order, and a mark is 0 or 1
+unfoldable pub judgedPosition : Bool → ℕ → ℕ → ℕ → Finding
+judgedPosition ok i position mark =
+    cond ok
+    (cond (eqb position (i - 1))
+    (cond (ltb 1 mark) (Fault (Sequence i)) Clean)
+    (Fault (Sequence i)))
+    (Fault (Form i))
+
+unfoldable pub positionFinding : List ℕ → ℕ → Finding
+positionFinding text i = judgedPosition (positionFormed text i) i (fromAt text i) (numberOf (markAt text i))
+
+-- "by from, then M before D, then by to": the second move is above the first
+unfoldable pub above : ℕ → ℕ → ℕ → ℕ → ℕ → ℕ → Bool
+above from₀ cost₀ to₀ from cost to =
+    cond (ltb from₀ from) true
+    (cond (ltb from from₀) false
+    (cond (ltb cost₀ cost) true
+    (cond (ltb cost cost₀) false
+    (ltb to₀ to))))
+
+-- the move on line i is above the one on the line before
+unfoldable pub rises : List ℕ → ℕ → Bool
+rises text i =
+    above (fromAt text (i - 1)) (costOf (letterAt text (i - 1))) (toAt text (i - 1))
+    (fromAt text i) (costOf (letterAt text i)) (toAt text i)
+
+-- refusal 8; the first move line, n + 1, has none before it
+unfoldable pub ordered : ℕ → ℕ → Bool → Finding
+ordered n i rising = cond (leb (i - 1) n) Clean (cond rising Clean (Fault (Order i)))
+
+-- refusals 2, 6, 7 and 8, for a letter, from, to, the letter of the position moved from, and whether the move rises
+unfoldable pub judgedMove : Bool → ℕ → ℕ → ℕ → ℕ → ℕ → ℕ → Bool → Finding
+judgedMove ok n i letter from to owner rising =
+    cond ok
+    (cond (leb n from) (Fault (Endpoint i))
+    (cond (leb n to) (Fault (Endpoint i))
+    (cond (eqb letter 68)
+    (cond (eqb owner 76) (Fault (Disturbed i)) (ordered n i rising))
+    (ordered n i rising))))
+    (Fault (Form i))
+
+unfoldable pub moveFinding : List ℕ → ℕ → ℕ → Finding
+moveFinding text n i =
+    judgedMove (moveFormed text i) n i (letterAt text i) (fromAt text i) (toAt text i) (letterAt text (fromAt text i + 1)) (rises text i)
+
+-- the fault of line i after the header, where there are n positions
+unfoldable pub lineFinding : List ℕ → ℕ → ℕ → Finding
+lineFinding text n i = cond (leb i n) (positionFinding text i) (moveFinding text n i)
+
+-- the first of two findings that is a fault
+unfoldable pub orElse : Finding → Finding → Finding
+orElse Clean next = next
+orElse (Fault r) next = Fault r
+
+-- the first fault of `count` findings from the i-th on
+unfoldable pub firstOf : (ℕ → Finding) → ℕ → ℕ → Finding
+firstOf f zero i = Clean
+firstOf f (suc count) i = orElse (f i) (firstOf f count (i + 1))
+
+-- line i is a meant move from v
+unfoldable pub meantLine : List ℕ → ℕ → ℕ → Bool
+meantLine text i v = cond (eqb (letterAt text i) 77) (eqb (fromAt text i) v) false
+
+-- one of the first `count` move lines is a meant move from v
+unfoldable pub meantIn : List ℕ → ℕ → ℕ → ℕ → Bool
+meantIn text n zero v = false
+meantIn text n (suc count) v = cond (meantIn text n count v) true (meantLine text (n + 1 + count) v)
+
+-- refusal 9 for position v, of n, with m moves
+unfoldable pub missingAt : List ℕ → ℕ → ℕ → ℕ → Finding
+missingAt text n m v = cond (meantIn text n m v) Clean (Fault (NoMeant (v + 1)))
+
+-- the same of a row of flags, 0 where there is no meant move
+unfoldable pub unflaggedAt : List ℕ → ℕ → Finding
+unflaggedAt flags v = cond (eqb (getD flags v 0) 0) (Fault (NoMeant (v + 1))) Clean
+
+-- a fault is the answer, or the chart is accepted
+unfoldable pub answer : Chart → Finding → Examination
+answer chart Clean = Accepted chart
+answer chart (Fault r) = Refused r
+
+-- the lines after the header, then refusal 9
+unfoldable pub afterHeader : List ℕ → Chart → Examination
+afterHeader text chart =
+    answer chart
+    (orElse (firstOf (lineFinding text (chart .positions)) (chart .positions + chart .moves) 1)
+    (firstOf (missingAt text (chart .positions) (chart .moves)) (chart .positions) 0))
+
+unfoldable pub linesAfter : List ℕ → Examination → Examination
+linesAfter text (Accepted chart) = afterHeader text chart
+linesAfter text (Refused r) = Refused r
+
+-- refusal 1, and then line by line
+unfoldable pub examined : List ℕ → Examination
+examined text =
+    cond (eqb (length text) 0) (Refused Length)
+    (cond (ltb 55308 (length text)) (Refused Length)
+    (cond (eqb (length text % 12) 0) (linesAfter text (headerOf text)) (Refused Length)))

@@ -1,0 +1,47 @@
+-- Laws of the row of flags by which the positions without a meant move are found.
+use Prim.Native.Nat.{ℕ, zero, suc, _+_, _<_, _≤_}
+use native.Mathlib.Omega.{arith}
+use native.Mathlib.Numerals.{add-one}
+use mathlib.Core.Path.{_≡_, refl, sym, ap, _∙_, subst}
+use mathlib.Core.Bool.{Bool, true, false, cond}
+use mathlib.Core.List.{List}
+use lib.ListN.{length, getD, set, replicate}
+use lib.Seq.{getD-set-same, getD-set-other}
+use lib.Dec.{eqb}
+use borrow.Author.Tests.{eqb-true, eqb-false, ne-eqb}
+use Rattle.chart.specs.Examined.{meantLine, meantIn, missingAt, unflaggedAt}
+use Rattle.chart.specs.declared.Refusal.the-variants.{NoMeant}
+use Rattle.chart.specs.declared.Finding.the-variants.{Clean, Fault}
+
+-- a flag that is set at `from`
+pub flag-set : (flags : List ℕ) (from v : ℕ) → from < length flags → getD (set flags from 1) v 0 ≡ cond (eqb from v) 1 (getD flags v 0)
+flag-set flags from v h = go (eqb from v) refl
+  where
+    go : (b : Bool) → eqb from v ≡ b → getD (set flags from 1) v 0 ≡ cond b 1 (getD flags v 0)
+    go true e = subst (λ (w : ℕ). getD (set flags from 1) w 0 ≡ 1) (eqb-true from v e) (getD-set-same flags from 1 0 h)
+    go false e = getD-set-other flags from v 1 0 (λ p. eqb-false from v e (sym p))
+
+-- one more line
+pub flag-more : (text : List ℕ) (n k v old : ℕ) → cond (meantLine text (n + 1 + k) v) 1 (cond (meantIn text n k v) 1 old) ≡ cond (meantIn text n (k + 1) v) 1 old
+unfolding meantIn
+flag-more text n k v old = rw (add-one k) (both (meantLine text (n + 1 + k) v) (meantIn text n k v))
+  where
+    both : (a b : Bool) → cond a 1 (cond b 1 old) ≡ cond (cond b true a) 1 old
+    both true true = refl
+    both true false = refl
+    both false true = refl
+    both false false = refl
+
+-- where the flags were 0, the unflagged positions are those without a meant move
+pub flags-tell : (text flags : List ℕ) (n m v : ℕ) → getD flags v 0 ≡ cond (meantIn text n m v) 1 0 → unflaggedAt flags v ≡ missingAt text n m v
+unfolding unflaggedAt missingAt
+flags-tell text flags n m v e = rw e (both (meantIn text n m v))
+  where
+    both : (b : Bool) → cond (eqb (cond b 1 0) 0) (Fault (NoMeant (v + 1))) Clean ≡ cond b Clean (Fault (NoMeant (v + 1)))
+    both true = refl
+    both false = refl
+
+pub zeros : (count v : ℕ) → getD {A = ℕ} (replicate count 0) v 0 ≡ 0
+zeros zero v = refl
+zeros (suc count) zero = refl
+zeros (suc count) (suc v) = zeros count v

@@ -1,0 +1,60 @@
+-- The arena that a chart's text means, and the text of an arena (document 01, "The chart").
+use Prim.Native.Nat.{ℕ, zero, suc, _+_, _*_}
+use mathlib.Core.Bool.{cond}
+use mathlib.Core.List.{List, [], _∷_, _++_}
+use lib.ListN.{length}
+use lib.Dec.{eqb}
+use Rattle.field.specs.Text.{numberText}
+use Rattle.game.specs.Arena.{Arena, Position, Move, Owner, controller, environment, size}
+use Rattle.chart.specs.Text.{letterAt, markAt, numberOf, positionsOf, movesOf, fromAt, toAt}
+
+-- "`O` (the console chooses) or `L` (the lane chooses)"
+unfoldable pub ownerOf : ℕ → Owner
+ownerOf letter = cond (eqb letter 76) environment controller
+
+unfoldable pub ownerLetter : Owner → ℕ
+ownerLetter controller = 79
+ownerLetter environment = 76
+
+-- "`M` (meant) or `D` (disturbance)"
+unfoldable pub costOf : ℕ → ℕ
+costOf letter = cond (eqb letter 68) 1 0
+
+unfoldable pub costLetter : ℕ → ℕ
+costLetter cost = cond (eqb cost 0) 77 68
+
+-- the position on line i, and the move on line i
+unfoldable pub positionOn : List ℕ → ℕ → Position
+positionOn text i = record { owner = ownerOf (letterAt text i); mark = numberOf (markAt text i) }
+
+unfoldable pub moveOn : List ℕ → ℕ → Move
+moveOn text i = record { cost = costOf (letterAt text i); from = fromAt text i; to = toAt text i }
+
+-- f of each of `count` lines from line i on
+unfoldable pub onLines : {A : Type 0} → (ℕ → A) → ℕ → ℕ → List A
+onLines f zero i = []
+onLines f (suc count) i = f i ∷ onLines f count (i + 1)
+
+-- "Then n position lines", "Then m move lines"
+unfoldable pub arenaOf : List ℕ → Arena
+arenaOf text = record {
+  positions = onLines (positionOn text) (positionsOf text) 1;
+  moves = onLines (moveOn text) (movesOf text) (positionsOf text + 1);
+}
+
+-- one line: "one letter, two fields of five bytes, a line feed (byte 10)"
+unfoldable pub lineText : ℕ → ℕ → ℕ → List ℕ
+lineText letter first second = letter ∷ numberText first ++ numberText second ++ (10 ∷ [])
+
+-- the position lines, numbered from v
+unfoldable pub positionsText : ℕ → List Position → List ℕ
+positionsText v [] = []
+positionsText v (p ∷ ps) = lineText (ownerLetter (p .owner)) v (p .mark) ++ positionsText (v + 1) ps
+
+unfoldable pub movesText : List Move → List ℕ
+movesText [] = []
+movesText (m ∷ ms) = lineText (costLetter (m .cost)) (m .from) (m .to) ++ movesText ms
+
+-- "First line: `H`, the count n of positions, the count m of moves", then the position lines and the move lines
+unfoldable pub chartText : Arena → List ℕ
+chartText a = lineText 72 (size a) (length (a .moves)) ++ (positionsText 0 (a .positions) ++ movesText (a .moves))

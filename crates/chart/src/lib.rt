@@ -1,0 +1,423 @@
+// The chart's text (document 01, "The chart", and refusals 1 to 9 of its table): a text of any bytes is examined whole, and an
+// accepted one is decoded into rows of numbers, on which every job works. What a text means is in specs/Meaning.antt, each
+// refusal's condition in specs/Refusals.antt.
+ghost use mathlib.Core.Path.{_≡_};
+ghost use mathlib.Core.Bool.{cond};
+ghost use Prim.Native.Nat.{ℕ, _+_, _*_, _≤_, _<_};
+ghost use lib.ListN.{length, getD};
+ghost use Rattle.chart.specs.Text.{letterAt, markAt, fromAt, toAt, numberOf, isNumber};
+ghost use Rattle.chart.specs.Meaning.{costOf};
+ghost use Rattle.chart.specs.Examined.{numbered, formed, headerOf, limitsOf, positionFinding, judgedPosition, moveFinding, judgedMove, ordered, rises, above, lineFinding, firstOf, meantLine, meantIn, missingAt, unflaggedAt, afterHeader, examined};
+use field::Field;
+use field::read;
+
+// The counts of an accepted chart, with the limits of every chart.
+pub struct Chart {
+    pub positions: usize,
+    pub moves: usize,
+}
+
+impl Chart {
+    // The most positions, and the most moves.
+    pub const POSITIONS: usize = 512;
+
+    pub const MOVES: usize = 4096;
+    // The bytes of a line, and of the longest chart: a header, 512 positions and 4,096 moves.
+    pub const LINE: usize = 12;
+
+    pub const BYTES: usize = 55308;
+}
+
+// Refusals 1 to 9 in the table's order, each with its line where that is not always line 0.
+pub enum Refusal {
+    Length,
+    Form(usize),
+    Limits,
+    Count,
+    Sequence(usize),
+    Endpoint(usize),
+    Disturbed(usize),
+    Order(usize),
+    NoMeant(usize),
+}
+
+// What examining a text answers.
+pub enum Examination {
+    Accepted(Chart),
+    Refused(Refusal),
+}
+
+// What examining a part of a text finds.
+pub enum Finding {
+    Clean,
+    Fault(Refusal),
+}
+
+// The counts of a chart, or the first refusal in document 01's order.
+pub fn examine(text: &[u8]) -> Examination
+    ensures { λ r. ⌜ r ≡ examined (now (text .entry)) ⌝ }
+{
+    let size = text.len();
+    if size == 0 {
+        return Examination::Refused(Refusal::Length);
+    }
+    if Chart::BYTES < size {
+        return Examination::Refused(Refusal::Length);
+    }
+    if size % Chart::LINE != 0 {
+        return Examination::Refused(Refusal::Length);
+    }
+    match header(text) {
+        Examination::Refused(r) => Examination::Refused(r),
+        Examination::Accepted(chart) => after_header(text, chart),
+    }
+}
+
+// The header: its form, the limits, and that there are as many lines as it says.
+fn header(text: &[u8]) -> Examination
+    requires { ⌜ 12 ≤ length (now text) ⌝ }
+    ensures { λ r. ⌜ r ≡ headerOf (now (text .entry)) ⌝ }
+{
+    let ok = formed(text[0], read(text, 1), read(text, 6), text[11], b'H', b'H');
+    limits(ok, text.len(), from_at(text, 0), to_at(text, 0))
+}
+
+fn limits(ok: bool, size: usize, n: usize, m: usize) -> Examination
+    ensures { λ r. ⌜ r ≡ limitsOf ok size n m ⌝ }
+{
+    if !ok {
+        return Examination::Refused(Refusal::Form(0));
+    }
+    if n < 1 {
+        return Examination::Refused(Refusal::Limits);
+    }
+    if Chart::POSITIONS < n {
+        return Examination::Refused(Refusal::Limits);
+    }
+    if m < 1 {
+        return Examination::Refused(Refusal::Limits);
+    }
+    if Chart::MOVES < m {
+        return Examination::Refused(Refusal::Limits);
+    }
+    if size != (1 + n + m) * Chart::LINE {
+        return Examination::Refused(Refusal::Count);
+    }
+    Examination::Accepted(Chart {
+        positions: n,
+        moves: m,
+    })
+}
+
+// The lines after a header with these counts, and then that each position has a meant move.
+fn after_header(text: &[u8], chart: Chart) -> Examination
+    requires { ⌜ (1 + chart .positions + chart .moves) * 12 ≤ length (now text) ⌝ }
+    requires { ⌜ (chart .positions ≤ 512) × (chart .moves ≤ 4096) ⌝ }
+    ensures { λ r. ⌜ r ≡ afterHeader (now (text .entry)) chart ⌝ }
+{
+    let n = chart.positions;
+    let m = chart.moves;
+    match first_fault(text, n, n + m) {
+        Finding::Fault(r) => Examination::Refused(r),
+        Finding::Clean => match missing(text, n, m) {
+            Finding::Fault(r) => Examination::Refused(r),
+            Finding::Clean => Examination::Accepted(chart),
+        },
+    }
+}
+
+// The first fault on lines 1 to `last`, of which the first n are positions.
+fn first_fault(text: &[u8], n: usize, last: usize) -> Finding
+    requires { ⌜ (n ≤ last) × ((last + 1) * 12 ≤ length (now text)) ⌝ }
+    ensures { λ r. ⌜ r ≡ firstOf (lineFinding (now (text .entry)) n) last 1 ⌝ }
+{
+    let mut line = 1;
+    while line <= last {
+        match line_fault(text, n, line) {
+            Finding::Fault(r) => return Finding::Fault(r),
+            Finding::Clean => {}
+        }
+        line += 1;
+    }
+    Finding::Clean
+}
+
+// The fault of one line.
+fn line_fault(text: &[u8], n: usize, line: usize) -> Finding
+    requires { ⌜ (1 ≤ line) × ((n + 1) * 12 ≤ length (now text)) × ((line + 1) * 12 ≤ length (now text)) ⌝ }
+    ensures { λ r. ⌜ r ≡ lineFinding (now (text .entry)) n line ⌝ }
+{
+    if line <= n {
+        position_fault(text, line)
+    } else {
+        move_fault(text, n, line)
+    }
+}
+
+fn position_fault(text: &[u8], line: usize) -> Finding
+    requires { ⌜ (1 ≤ line) × ((line + 1) * 12 ≤ length (now text)) ⌝ }
+    ensures { λ r. ⌜ r ≡ positionFinding (now (text .entry)) line ⌝ }
+{
+    let at = line * Chart::LINE;
+    let mark = mark_at(text, line);
+    let ok = formed(
+        text[at],
+        read(text, at + 1),
+        mark,
+        text[at + 11],
+        b'O',
+        b'L',
+    );
+    judge_position(ok, line, from_at(text, line), number(mark))
+}
+
+fn judge_position(ok: bool, line: usize, position: usize, mark: usize) -> Finding
+    requires { ⌜ 1 ≤ line ⌝ }
+    ensures { λ r. ⌜ r ≡ judgedPosition ok line position mark ⌝ }
+{
+    if !ok {
+        return Finding::Fault(Refusal::Form(line));
+    }
+    if position != line - 1 {
+        return Finding::Fault(Refusal::Sequence(line));
+    }
+    if 1 < mark {
+        return Finding::Fault(Refusal::Sequence(line));
+    }
+    Finding::Clean
+}
+
+// A move line after n positions. The line before is read again, so that nothing is carried from line to line.
+fn move_fault(text: &[u8], n: usize, line: usize) -> Finding
+    requires { ⌜ (1 ≤ line) × ((n + 1) * 12 ≤ length (now text)) × ((line + 1) * 12 ≤ length (now text)) ⌝ }
+    ensures { λ r. ⌜ r ≡ moveFinding (now (text .entry)) n line ⌝ }
+{
+    let at = line * Chart::LINE;
+    let letter = text[at];
+    let ok = formed(
+        letter,
+        read(text, at + 1),
+        read(text, at + 6),
+        text[at + 11],
+        b'M',
+        b'D',
+    );
+    let from = from_at(text, line);
+    let owner = letter_at(text, from + 1);
+    judge_move(
+        ok,
+        n,
+        line,
+        letter,
+        from,
+        to_at(text, line),
+        owner,
+        rise(text, line),
+    )
+}
+
+fn judge_move(
+    ok: bool,
+    n: usize,
+    line: usize,
+    letter: u8,
+    from: usize,
+    to: usize,
+    owner: u8,
+    rises: bool,
+) -> Finding
+    requires { ⌜ 1 ≤ line ⌝ }
+    ensures { λ r. ⌜ r ≡ judgedMove ok n line letter from to owner rises ⌝ }
+{
+    if !ok {
+        return Finding::Fault(Refusal::Form(line));
+    }
+    if n <= from {
+        return Finding::Fault(Refusal::Endpoint(line));
+    }
+    if n <= to {
+        return Finding::Fault(Refusal::Endpoint(line));
+    }
+    if letter == b'D' {
+        if owner == b'L' {
+            return Finding::Fault(Refusal::Disturbed(line));
+        }
+        return judge_order(n, line, rises);
+    }
+    judge_order(n, line, rises)
+}
+
+// The first move line has none before it.
+fn judge_order(n: usize, line: usize, rises: bool) -> Finding
+    requires { ⌜ 1 ≤ line ⌝ }
+    ensures { λ r. ⌜ r ≡ ordered n line rises ⌝ }
+{
+    if line - 1 <= n {
+        return Finding::Clean;
+    }
+    if rises {
+        Finding::Clean
+    } else {
+        Finding::Fault(Refusal::Order(line))
+    }
+}
+
+// Whether the move on a line is above the one before.
+fn rise(text: &[u8], line: usize) -> bool
+    requires { ⌜ (1 ≤ line) × ((line + 1) * 12 ≤ length (now text)) ⌝ }
+    ensures { λ r. ⌜ r ≡ rises (now (text .entry)) line ⌝ }
+{
+    let before = line - 1;
+    let cost0 = cost(text[before * Chart::LINE]);
+    let cost1 = cost(text[line * Chart::LINE]);
+    above(
+        from_at(text, before),
+        cost0,
+        to_at(text, before),
+        from_at(text, line),
+        cost1,
+        to_at(text, line),
+    )
+}
+
+// By from, then M before D, then by to.
+fn above(from0: usize, cost0: u8, to0: usize, from: usize, cost: u8, to: usize) -> bool
+    ensures { λ r. ⌜ r ≡ above from0 cost0 to0 from cost to ⌝ }
+{
+    if from0 < from {
+        return true;
+    }
+    if from < from0 {
+        return false;
+    }
+    if cost0 < cost {
+        return true;
+    }
+    if cost < cost0 {
+        return false;
+    }
+    to0 < to
+}
+
+// A meant move costs 0, a disturbance 1.
+fn cost(letter: u8) -> u8
+    ensures { λ r. ⌜ r ≡ costOf letter ⌝ }
+{
+    if letter == b'D' { 1 } else { 0 }
+}
+
+// The lowest position without a meant move. One pass over the moves flags the positions that have one.
+fn missing(text: &[u8], n: usize, m: usize) -> Finding
+    requires { ⌜ (n ≤ 512) × ((1 + n + m) * 12 ≤ length (now text)) ⌝ }
+    ensures { λ r. ⌜ r ≡ firstOf (missingAt (now (text .entry)) n m) n 0 ⌝ }
+{
+    let mut flags = [0u8; Chart::POSITIONS];
+    flag_meant(text, n, m, &mut flags);
+    unflagged(&flags, n)
+}
+
+// A line's letter is one of two, its fields are numbers, and a line feed ends it.
+fn formed(letter: u8, first: Field, second: Field, end: u8, a: u8, b: u8) -> bool
+    ensures { λ r. ⌜ r ≡ formed letter first second end a b ⌝ }
+{
+    if letter == a {
+        return numbered(first, second, end);
+    }
+    if letter == b {
+        return numbered(first, second, end);
+    }
+    false
+}
+
+fn numbered(first: Field, second: Field, end: u8) -> bool
+    ensures { λ r. ⌜ r ≡ numbered first second end ⌝ }
+{
+    match first {
+        Field::Bad => false,
+        Field::Number(_) => match second {
+            Field::Bad => false,
+            Field::Number(_) => end == 10,
+        },
+    }
+}
+
+// A 1 for each position that one of the m moves after n positions is a meant move from; the other flags stay.
+fn flag_meant(text: &[u8], n: usize, m: usize, flags: &mut [u8])
+    requires { ⌜ (1 + n + m) * 12 ≤ length (now text) ⌝ }
+    ensures { λ _. ⌜ ((v : ℕ) → v < length (now (flags .entry)) → getD (now (flags .exit)) v 0 ≡ cond (meantIn (now (text .entry)) n m v) 1 (getD (now (flags .entry)) v 0)) ⌝ }
+{
+    let mut k = 0;
+    while k < m {
+        flag_line(text, n + 1 + k, flags);
+        k += 1;
+    }
+}
+
+// A 1 for the position that a line is a meant move from.
+fn flag_line(text: &[u8], line: usize, flags: &mut [u8])
+    requires { ⌜ (line + 1) * 12 ≤ length (now text) ⌝ }
+    ensures { λ _. ⌜ ((v : ℕ) → v < length (now (flags .entry)) → getD (now (flags .exit)) v 0 ≡ cond (meantLine (now (text .entry)) line v) 1 (getD (now (flags .entry)) v 0)) ⌝ }
+{
+    if text[line * Chart::LINE] == b'M' {
+        let from = from_at(text, line);
+        if from < flags.len() {
+            flags[from] = 1;
+        }
+    }
+}
+
+// The lowest of n positions whose flag is 0.
+fn unflagged(flags: &[u8], n: usize) -> Finding
+    requires { ⌜ n ≤ length (now flags) ⌝ }
+    ensures { λ r. ⌜ r ≡ firstOf (unflaggedAt (now (flags .entry))) n 0 ⌝ }
+{
+    let mut v = 0;
+    while v < n {
+        if flags[v] == 0 {
+            return Finding::Fault(Refusal::NoMeant(v + 1));
+        }
+        v += 1;
+    }
+    Finding::Clean
+}
+
+// The numbers of a line's two fields; 0 stands for a bad field. The bounds keep the line within the text.
+fn from_at(text: &[u8], line: usize) -> usize
+    requires { ⌜ (line + 1) * 12 ≤ length (now text) ⌝ }
+    ensures { λ r. ⌜ r ≡ fromAt (now (text .entry)) line ⌝ }
+{
+    number(read(text, line * Chart::LINE + 1))
+}
+
+fn to_at(text: &[u8], line: usize) -> usize
+    requires { ⌜ (line + 1) * 12 ≤ length (now text) ⌝ }
+    ensures { λ r. ⌜ r ≡ toAt (now (text .entry)) line ⌝ }
+{
+    number(read(text, line * Chart::LINE + 6))
+}
+
+// A line's letter; 0 past the end, as for a line that a bad move names.
+fn letter_at(text: &[u8], line: usize) -> u8
+    requires { ⌜ line ≤ 100000 ⌝ }
+    ensures { λ r. ⌜ r ≡ letterAt (now (text .entry)) line ⌝ }
+{
+    let at = line * Chart::LINE;
+    if at < text.len() { text[at] } else { 0 }
+}
+
+// The mark of a position line.
+fn mark_at(text: &[u8], line: usize) -> Field
+    requires { ⌜ (line + 1) * 12 ≤ length (now text) ⌝ }
+    ensures { λ r. ⌜ r ≡ markAt (now (text .entry)) line ⌝ }
+{
+    read(text, line * Chart::LINE + 6)
+}
+
+fn number(f: Field) -> usize
+    ensures { λ r. ⌜ r ≡ numberOf f ⌝ }
+{
+    match f {
+        Field::Number(x) => x as usize,
+        Field::Bad => 0,
+    }
+}
