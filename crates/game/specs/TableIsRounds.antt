@@ -54,7 +54,7 @@ joins-map-as environment a P Q f v some = (some .0, some .1, f (some .0) (some .
 pub joins-map : (a : Arena) (P Q : Positions) → ((w : ℕ) → P w → Q w) → (v : ℕ) → Joins a P v → Joins a Q v
 joins-map a P Q f v j = (j .0, joins-map-as (ownerAt a v) a P Q f v (j .1))
 
--- what a round leaves placed, and whom it takes, where P is what was placed before it and C the condition to join
+-- what a round leaves placed, and which positions it takes, where P is what was placed before it and C the condition to join
 module _ (test : ℕ → Bool) (k s : ℕ) (t : Table) (P C : Positions)
     (p : (v : ℕ) → P v ↔ PlacedIn t v) (c : (v : ℕ) → C v ↔ ((v < length t) × T (test v))) where
   round-places : (v : ℕ) → (P v ⊎ C v) ↔ PlacedIn (place test (placed k s) 0 t) v
