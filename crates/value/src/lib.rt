@@ -1,0 +1,3 @@
+pub mod choose;
+pub mod solve;
+pub mod summary;
