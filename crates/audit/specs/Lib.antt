@@ -1,0 +1,5 @@
+pub mod Position
+pub mod Sheet
+pub mod Verdict
+pub mod VerdictLaws
+pub mod Walk

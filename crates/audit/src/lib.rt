@@ -1,0 +1,2 @@
+pub mod position;
+pub mod rows;
