@@ -9,3 +9,4 @@ pub mod Header
 pub mod Good
 pub mod Loaded
 pub mod Filled
+pub mod Accepted

@@ -37,7 +37,7 @@ module _ {n : ℕ} {owners costs froms tos values : List ℕ} where
 
   pub choosing-next : {i : ℕ} {before row : List ℕ} → Choosing n owners costs froms tos values i before row → n ≤ length row → getD froms i 0 < n
       → Choosing n owners costs froms tos values (i + 1) before
-        (setIf (ownMove owners costs froms i && isBetter values (getD row (getD froms i 0) 0) (getD tos i 0)) (getD froms i 0) (getD tos i 0) row)
+      (setIf (ownMove owners costs froms i && isBetter values (getD row (getD froms i 0) 0) (getD tos i 0)) (getD froms i 0) (getD tos i 0) row)
   unfolding bestBelow
   choosing-next {i} {row} h l inside =
       record {
@@ -142,7 +142,7 @@ module _ (a : Arena) (n m : ℕ) (owners costs froms tos values : List ℕ) (val
   -- one move, for a position of the controller
   step : ownerAt a v ≡ controller → (i : ℕ) → i < m → (x : Value) → Inside x
       → (cond (eqb (getD froms i 0) v && (ownMove owners costs froms i && isBetter values (numberOf x) (getD tos i 0))) (getD tos i 0) (numberOf x)
-        ≡ numberOf (cond (meantFrom v (moveAt a i)) (better value x (moveAt a i .to)) x))
+      ≡ numberOf (cond (meantFrom v (moveAt a i)) (better value x (moveAt a i .to)) x))
       × Inside (cond (meantFrom v (moveAt a i)) (better value x (moveAt a i .to)) x)
   unfolding ownMove meantFrom
   step own i l x h = rw (d .from i l, d .cost i l, d .to i l) (go (ℕ-discrete (moveAt a i .from) v) (eqb (moveAt a i .cost) 0))
@@ -156,7 +156,7 @@ module _ (a : Arena) (n m : ℕ) (owners costs froms tos values : List ℕ) (val
 
       go : Dec (moveAt a i .from ≡ v) → (c : Bool)
           → (cond (eqb (moveAt a i .from) v && ((c && eqb (getD owners (moveAt a i .from) 0) 0) && isBetter values (numberOf x) t)) t (numberOf x)
-            ≡ numberOf (cond (c && eqb (moveAt a i .from) v) (better value x t) x))
+          ≡ numberOf (cond (c && eqb (moveAt a i .from) v) (better value x t) x))
           × Inside (cond (c && eqb (moveAt a i .from) v) (better value x t) x)
       go (yes z) c = rw (z, eq-eqb v v refl, d .owner v inside, own, and-true) (meant-or-not c)
       go (no z) c = rw (ne-eqb (moveAt a i .from) v z, and-false) (refl, h)
@@ -172,7 +172,7 @@ module _ (a : Arena) (n m : ℕ) (owners costs froms tos values : List ℕ) (val
       let one = step own i l x (rec .1) in
       let p = d .moves in
       let e : bestIn value v ever (take (suc i) (a .moves)) ≡ cond (meantFrom v (moveAt a i)) (better value x (moveAt a i .to)) x =
-          ap (bestIn value v ever) (take-suc (a .moves) i noMove (omega arith)) ∙ best-snoc value v ever (take i (a .moves)) (moveAt a i) in
+      ap (bestIn value v ever) (take-suc (a .moves) i noMove (omega arith)) ∙ best-snoc value v ever (take i (a .moves)) (moveAt a i) in
       rw (e, rec .0) one
 
   none-so-far : ownerAt a v ≡ environment → (i : ℕ) → i ≤ m → bestBelow owners costs froms tos values i v ≡ 65535

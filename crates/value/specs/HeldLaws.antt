@@ -6,7 +6,7 @@ use native.Mathlib.Decide.{ℕ-discrete}
 use native.Mathlib.Omega.{arith}
 use mathlib.Core.Path.{_≡_, refl, sym, ap, subst, _∙_}
 use mathlib.Core.Bool.{Bool, true, false, cond, not, _&&_, _||_, and-comm, and-true, and-false, Bool·not-not, or-false, or-assoc}
-use mathlib.Core.List.{List, [], _∷_, List·Memᴰ, List·Memᴰ·head, List·Memᴰ·tail}
+use mathlib.Core.List.{List, [], _∷_}
 use lib.ListN.{length, getD}
 use lib.Dec.{T, eqb}
 use borrow.Author.Tests.{eq-eqb, ne-eqb}
@@ -16,8 +16,10 @@ use Rattle.game.specs.Arena.{Arena, Move, Owner, controller, environment, WellF
 use Rattle.game.specs.Table.{Table, Placement, unplaced, placed, placementAt, isPlaced, hasValue, valueIn, stepIn, place, someMove, meantFrom, disturbanceFrom, ready, readyAs, begins}
 use Rattle.game.specs.TableLaws.{Takes, place-at, place-length}
 use Rattle.chart.specs.Rows.{RowIs, ownerNumber}
-use Rattle.value.specs.RowLaws.{Filled, Marked, found, numberAt}
-use Rattle.value.specs.Solve.{bit, free, taken, Placing, decides, disturbs, readyFlag}
+use Rattle.chart.specs.Loaded.{Filled}
+use Rattle.chart.specs.Accepted.{at-member}
+use Rattle.value.specs.RowLaws.{Marked, found, numberAt}
+use Rattle.value.specs.Solve.{bit, free, taken, Placing, Within, decides, disturbs, readyFlag}
 use Rattle.value.specs.Held.{Holds, Flags, Decoded}
 
 -- Counting and searching below a number
@@ -76,9 +78,9 @@ module _ (test : ℕ → Bool) (t : Table) (n k s : ℕ) (flags values steps val
   place-holds =
       record {
         full = place-length test (placed k s) 0 t ∙ held .full;
-        value = λ v l. round .value .done v l ∙ at v l (λ p. numberOf (valueIn p)) k (getD values v 0) refl (held .value v l);
-        step = λ v l. round .step .done v l ∙ at v l (λ p. numberOf (stepIn p)) s (getD steps v 0) refl (held .step v l);
-        unplaced = λ v l. rw (round .value .done v l) (shown v l);
+        value = λ v l. round .value .row v l ∙ at v l (λ p. numberOf (valueIn p)) k (getD values v 0) refl (held .value v l);
+        step = λ v l. round .step .row v l ∙ at v l (λ p. numberOf (stepIn p)) s (getD steps v 0) refl (held .step v l);
+        unplaced = λ v l. rw (round .value .row v l) (shown v l);
       }
     where
       shown : (v : ℕ) → v < n → eqb (cond (taken flags values v) k (getD values v 0)) 65535 ≡ not (isPlaced (placementAt (place test (placed k s) 0 t) v))
@@ -109,14 +111,12 @@ unfolding numberOf valueIn hasValue
 value-test k small unplaced = ne-eqb 65535 k (λ e. omega arith)
 value-test k small (placed j s) = refl
 
-line-is-move : (ms : List Move) (j : ℕ) → j < length ms → List·Memᴰ (getD ms j noMove) ms
-line-is-move [] j l = absurd (omega arith)
-line-is-move (m ∷ ms) zero l = List·Memᴰ·head refl
-line-is-move (m ∷ ms) (suc j) l = List·Memᴰ·tail (line-is-move ms j (omega arith))
-
 module _ (a : Arena) (n m : ℕ) (owners costs froms tos : List ℕ) (d : Decoded a n m owners costs froms tos) where
+  from-inside : (j : ℕ) → j < m → moveAt a j .from < n
+  from-inside j l = rw (← d .positions) (d .well .from-position (moveAt a j) (at-member noMove (a .moves) j (rw (d .moves) l)))
+
   pub to-inside : (j : ℕ) → j < m → moveAt a j .to < n
-  to-inside j l = rw (← d .positions) (d .well .to-position (moveAt a j) (line-is-move (a .moves) j (rw (d .moves) l)))
+  to-inside j l = rw (← d .positions) (d .well .to-position (moveAt a j) (at-member noMove (a .moves) j (rw (d .moves) l)))
 
   -- the lines that leave v with a property are the moves with it, if the property is false of moves that leave another
   lines-of : (v : ℕ) (q : ℕ → Bool) (p : Move → Bool)
@@ -180,3 +180,15 @@ module _ (a : Arena) (n m : ℕ) (owners costs froms tos : List ℕ) (d : Decode
 
         other : (x : Move) → eqb (x .from) v ≡ false → into x ≡ false
         other x e = rw (e, and-false)
+
+-- rows that hold an arena are within their bounds
+pub decoded-within : {a : Arena} {n m : ℕ} {owners costs froms tos : List ℕ} → Decoded a n m owners costs froms tos
+    → m ≤ length costs → m ≤ length froms → m ≤ length tos → Within n m costs froms tos
+decoded-within {a} {n} {m} {owners} {costs} {froms} {tos} d c f t =
+    record {
+      costs-row = c;
+      froms-row = f;
+      tos-row = t;
+      from-inside = λ i l. rw (d .from i l) (from-inside a n m owners costs froms tos d i l);
+      to-inside = λ i l. rw (d .to i l) (to-inside a n m owners costs froms tos d i l);
+    }

@@ -1,4 +1,3 @@
-pub mod Cases
 pub mod RowLaws
 pub mod Solve
 pub mod PlaceLaws
@@ -10,3 +9,5 @@ pub mod Choose
 pub mod ChooseLaws
 pub mod Summarize
 pub mod SummarizeLaws
+pub mod Valuing
+pub mod ValuingLaws

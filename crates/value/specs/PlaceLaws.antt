@@ -9,7 +9,9 @@ use mathlib.Core.List.{List}
 use lib.ListN.{length, getD}
 use lib.Dec.{eqb}
 use Rattle.game.specs.Summary.{countBelow}
-use Rattle.value.specs.RowLaws.{Filled, filled-none, filled-next}
+use Rattle.value.specs.RowLaws.{filled-next}
+use Rattle.chart.specs.Loaded.{Filled}
+use Rattle.chart.specs.Filled.{filled-none}
 use Rattle.value.specs.Solve.{bit, taken, Placing, PlacingAt}
 
 pub count-next : (p : ℕ → Bool) (i : ℕ) → countBelow p (i + 1) ≡ countBelow p i + bit (p i)
@@ -31,7 +33,7 @@ one-at-most {v} {flags} {values} e = rw (e .counted) (bit-le (taken flags values
 module _ (flags : List ℕ) (k s : ℕ) (values steps : List ℕ) where
   pub placing-none : Placing 0 flags k s values steps values steps 0
   unfolding countBelow
-  placing-none = record { value = filled-none _ values; step = filled-none _ steps; counted = refl }
+  placing-none = record { value = filled-none values _; step = filled-none steps _; counted = refl }
 
   module _ (v : ℕ) (values′ steps′ : List ℕ) (count : ℕ) (h : Placing v flags k s values steps values′ steps′ count) where
     -- the position v is as it was

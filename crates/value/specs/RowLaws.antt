@@ -1,6 +1,7 @@
 -- Rows that a loop fills: from the front, one number a turn, or at the place that each move names. Each has a law for
 -- the start and for a turn.
 use Prim.Native.Nat.{ℕ, zero, suc, _+_, _≤_, _<_}
+use native.Mathlib.Nat.{le-refl}
 use native.Mathlib.Numerals.{add-one}
 use native.Mathlib.Omega.{arith}
 use native.Mathlib.Decide.{ℕ-discrete}
@@ -10,9 +11,12 @@ use mathlib.Core.List.{List}
 use lib.ListN.{length, getD, set, length-set}
 use lib.Seq.{getD-set-same, getD-set-other}
 use lib.Dec.{eqb}
+use borrow.Author.Count.{below-more}
 use borrow.Author.Tests.{eq-eqb, ne-eqb}
 use Rattle.game.specs.Summary.{someBelow}
 use Rattle.chart.specs.Rows.{RowIs}
+use Rattle.chart.specs.Loaded.{Filled}
+use Rattle.chart.specs.Filled.{filled-more}
 
 -- the number at j
 abbrev pub numberAt : List ℕ → ℕ → ℕ
@@ -21,11 +25,6 @@ numberAt row j = getD row j 0
 -- what lies past the first n numbers stays
 abbrev pub Stays : ℕ → List ℕ → List ℕ → Type 0
 Stays n before after = (j : ℕ) → n ≤ j → getD after j 0 ≡ getD before j 0
-
--- the first n numbers are those of f, and what lies past them stays
-pub record Filled (n : ℕ) (f : ℕ → ℕ) (before after : List ℕ) : Type 0 where
-  pub done : RowIs after n f
-  pub rest : Stays n before after
 
 -- the row with x at v, if the test passes
 abbrev pub setIf : Bool → ℕ → ℕ → List ℕ → List ℕ
@@ -40,28 +39,16 @@ pub setIf-stays : (b : Bool) (n v x : ℕ) (row : List ℕ) → v < n → Stays 
 setIf-stays true n v x row l j k = getD-set-other row v j x 0 (λ e. omega arith)
 setIf-stays false n v x row l j k = refl
 
-pub filled-none : (f : ℕ → ℕ) (row : List ℕ) → Filled 0 f row row
-filled-none f row = record { done = λ j l. absurd (omega arith); rest = λ j l. refl }
-
-module _ {i : ℕ} {f : ℕ → ℕ} {before after : List ℕ} (h : Filled i f before after) where
-  filled-set : (x : ℕ) → i < length after → x ≡ f i → Filled (i + 1) f before (set after i x)
-  filled-set x l e = record { done = λ j m. go j (ℕ-discrete j i) m; rest = λ j m. getD-set-other after i j x 0 (λ z. omega arith) ∙ h .rest j (omega arith) }
-    where
-      go : (j : ℕ) → Dec (j ≡ i) → j < i + 1 → getD (set after i x) j 0 ≡ f j
-      go j (yes z) m = rw z (getD-set-same after i x 0 l ∙ e)
-      go j (no z) m = getD-set-other after i j x 0 z ∙ h .done j (omega arith)
-
-  filled-same : getD before i 0 ≡ f i → Filled (i + 1) f before after
-  filled-same e = record { done = λ j m. go j (ℕ-discrete j i) m; rest = λ j m. h .rest j (omega arith) }
-    where
-      go : (j : ℕ) → Dec (j ≡ i) → j < i + 1 → getD after j 0 ≡ f j
-      go j (yes z) m = rw z (h .rest i (omega arith) ∙ e)
-      go j (no z) m = h .done j (omega arith)
-
-  -- a turn: the number is stored, or was right already
-  pub filled-next : (b : Bool) (x : ℕ) → i < length after → f i ≡ cond b x (getD before i 0) → Filled (i + 1) f before (setIf b i x after)
-  filled-next true x l e = filled-set x l (sym e)
-  filled-next false x l e = filled-same (sym e)
+-- a turn: the number is stored, or was right already
+pub filled-next : {i : ℕ} {f : ℕ → ℕ} {before after : List ℕ} → Filled before after i f → (b : Bool) (x : ℕ) → i < length after
+    → f i ≡ cond b x (getD before i 0) → Filled before (setIf b i x after) (i + 1) f
+filled-next {i} {f} {before} {after} h true x l e = filled-more before after i x f h (subst (λ (k : ℕ). i < k) (h .same-length) l) (sym e)
+filled-next {i} {f} {before} {after} h false x l e =
+    record {
+      row = below-more (λ (j : ℕ). getD after j 0 ≡ f j) i (h .row) (h .rest i (le-refl i) ∙ sym e);
+      rest = λ j m. h .rest j (omega arith);
+      same-length = h .same-length;
+    }
 
 -- Of the first i items, some with the property q is at v. (`at` says where each item is: the position that a move leaves.)
 unfoldable pub found : (ℕ → ℕ) → (ℕ → Bool) → ℕ → ℕ → Bool

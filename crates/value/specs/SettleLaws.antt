@@ -62,6 +62,6 @@ module _ {n m : ℕ} {owners costs froms tos : List ℕ} {k : ℕ} {values steps
             let here : Holds (tableAfter a start k s) n values′ steps′ = so-far .rows a start d full held in
             let settled : Settled a (tableAfter a start k s) = none-taken (ready a (tableAfter a start k s)) (tableAfter a start k s) n k (s + 1) flags values′ steps′ values″ steps″ count small (flagged a start d here) here round none in
             let stays : tableAfter a start k n ≡ tableAfter a start k (suc s) =
-                subst (λ (i : ℕ). tableAfter a start k i ≡ tableAfter a start k (suc s)) (d .positions)
-                (steps-stop-early a start k (full ∙ sym (d .positions)) s settled ∙ sym (settled-stays a start k s (suc s) (omega arith) settled)) in
+            subst (λ (i : ℕ). tableAfter a start k i ≡ tableAfter a start k (suc s)) (d .positions)
+            (steps-stop-early a start k (full ∙ sym (d .positions)) s settled ∙ sym (settled-stays a start k s (suc s) (omega arith) settled)) in
             rw stays (after a start d here)

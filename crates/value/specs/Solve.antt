@@ -8,7 +8,8 @@ use mathlib.Core.List.{List}
 use lib.ListN.{length, getD}
 use lib.Dec.{eqb}
 use Rattle.game.specs.Summary.{countBelow}
-use Rattle.value.specs.RowLaws.{Filled, setIf}
+use Rattle.chart.specs.Loaded.{Filled}
+use Rattle.value.specs.RowLaws.{setIf}
 
 abbrev pub bit : Bool → ℕ
 bit true = 1
@@ -24,8 +25,8 @@ taken flags values v = eqb (getD flags v 0) 1 && free values v
 
 -- round (k, s): what it takes has value k and step s, everything else stays, and the answer counts what it takes
 pub record Placing (n : ℕ) (flags : List ℕ) (k s : ℕ) (values steps values′ steps′ : List ℕ) (count : ℕ) : Type 0 where
-  pub value : Filled n (λ v. cond (taken flags values v) k (getD values v 0)) values values′
-  pub step : Filled n (λ v. cond (taken flags values v) s (getD steps v 0)) steps steps′
+  pub value : Filled values values′ n (λ v. cond (taken flags values v) k (getD values v 0))
+  pub step : Filled steps steps′ n (λ v. cond (taken flags values v) s (getD steps v 0))
   pub counted : count ≡ countBelow (taken flags values) n
 
 -- the same at the one position v

@@ -14,26 +14,27 @@ use Rattle.game.specs.TableLaws.{Takes, place-none}
 use Rattle.game.specs.RoundTables.{before-length}
 use Rattle.game.specs.Stable.{values-end, values-stop-at-a-quiet-round}
 use Rattle.chart.specs.Rows.{RowIs}
-use Rattle.value.specs.RowLaws.{Filled, Marked, Stays, numberAt}
+use Rattle.chart.specs.Loaded.{Filled}
+use Rattle.value.specs.RowLaws.{Marked, Stays, numberAt}
 use Rattle.value.specs.Solve.{bit, Placing, disturbs}
 use Rattle.value.specs.Held.{Holds, Flags, Decoded, Settling, Solving, Solved}
 use Rattle.value.specs.HeldLaws.{place-holds, none-taken, disturbed-flag}
 
 -- cleared rows hold the empty table
-cleared : (n : ℕ) {values steps values′ steps′ : List ℕ} → Filled n (λ v. 65535) values values′ → Filled n (λ v. 65535) steps steps′
+cleared : (n : ℕ) {values steps values′ steps′ : List ℕ} → Filled values values′ n (λ v. 65535) → Filled steps steps′ n (λ v. 65535)
     → Holds (replicate n unplaced) n values′ steps′
 unfolding numberOf valueIn stepIn isPlaced
 cleared n vs ss =
     record {
       full = length-replicate n unplaced;
-      value = λ v l. rw (getD-replicate n v unplaced unplaced l) (vs .done v l);
-      step = λ v l. rw (getD-replicate n v unplaced unplaced l) (ss .done v l);
-      unplaced = λ v l. rw (getD-replicate n v unplaced unplaced l, vs .done v l);
+      value = λ v l. rw (getD-replicate n v unplaced unplaced l) (vs .row v l);
+      step = λ v l. rw (getD-replicate n v unplaced unplaced l) (ss .row v l);
+      unplaced = λ v l. rw (getD-replicate n v unplaced unplaced l, vs .row v l);
     }
 
 module _ {n m : ℕ} {owners marks costs froms tos values steps : List ℕ} where
   pub solving-first : {values¹ steps¹ values² steps² values³ steps³ : List ℕ} {count : ℕ}
-      → Filled n (λ v. 65535) values values¹ → Filled n (λ v. 65535) steps steps¹ → Placing n marks 0 0 values¹ steps¹ values² steps² count
+      → Filled values values¹ n (λ v. 65535) → Filled steps steps¹ n (λ v. 65535) → Placing n marks 0 0 values¹ steps¹ values² steps² count
       → Settling n m owners costs froms tos 0 n values² steps² values³ steps³
       → Solving n m owners marks costs froms tos 0 values steps values³ steps³
   unfolding tableBefore tableAfter begins
@@ -49,7 +50,7 @@ module _ {n m : ℕ} {owners marks costs froms tos values steps : List ℕ} wher
           let empty : Holds (tableBefore a 0) n values¹ steps¹ = subst (λ (i : ℕ). Holds (replicate i unplaced) n values¹ steps¹) (sym (d .positions)) (cleared n vs ss) in
           let flagged : Flags (begins a 0 (tableBefore a 0)) n marks = λ v l. ap (λ (x : ℕ). eqb x 1) (marked v l) in
           let first : Holds (tableAfter a (tableBefore a 0) 0 0) n values² steps² =
-              place-holds (begins a 0 (tableBefore a 0)) (tableBefore a 0) n 0 0 marks values¹ steps¹ values² steps² count (omega arith) flagged empty round in
+          place-holds (begins a 0 (tableBefore a 0)) (tableBefore a 0) n 0 0 marks values¹ steps¹ values² steps² count (omega arith) flagged empty round in
           subst (λ (i : ℕ). Holds (tableAfter a (tableBefore a 0) 0 i) n values³ steps³) (sym (d .positions)) (settled .rows a (tableBefore a 0) d (before-length a 0 ∙ d .positions) first)
 
   -- what the rows held at first matters only past the n-th number

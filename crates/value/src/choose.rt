@@ -29,7 +29,15 @@ fn is_better(values: &[u16], best: u16, w: u16) -> bool
 }
 
 // Takes the target of the i-th move as the choice of the position that it leaves, if it is the best so far.
-fn choose_by(i: usize, owners: &[u8], costs: &[u8], froms: &[u16], tos: &[u16], values: &[u16], choices: &mut [u16])
+fn choose_by(
+    i: usize,
+    owners: &[u8],
+    costs: &[u8],
+    froms: &[u16],
+    tos: &[u16],
+    values: &[u16],
+    choices: &mut [u16],
+)
     requires { ⌜ AtMove i (now costs) (now froms) (now tos) (now values) (now choices) × (getD (now froms) i 0 < length (now owners)) × Fitting (now values) (getD (now choices) (getD (now froms) i 0) 0) (getD (now tos) i 0) ⌝ }
     ensures { λ _. ⌜ now (choices .exit) ≡ setIf (ownMove (now (owners .entry)) (now (costs .entry)) (now (froms .entry)) i && isBetter (now (values .entry)) (getD (now (choices .entry)) (getD (now (froms .entry)) i 0) 0) (getD (now (tos .entry)) i 0)) (getD (now (froms .entry)) i 0) (getD (now (tos .entry)) i 0) (now (choices .entry)) ⌝ }
 {
@@ -47,7 +55,16 @@ fn choose_by(i: usize, owners: &[u8], costs: &[u8], froms: &[u16], tos: &[u16], 
 }
 
 // The choice of each position by a row of values: one walk over the moves.
-pub fn choose(n: usize, m: usize, owners: &[u8], costs: &[u8], froms: &[u16], tos: &[u16], values: &[u16], choices: &mut [u16])
+pub fn choose(
+    n: usize,
+    m: usize,
+    owners: &[u8],
+    costs: &[u8],
+    froms: &[u16],
+    tos: &[u16],
+    values: &[u16],
+    choices: &mut [u16],
+)
     requires { ⌜ Within n m (now costs) (now froms) (now tos) × (n ≤ 512) × (n ≤ length (now owners)) × (n ≤ length (now values)) × (n ≤ length (now choices)) ⌝ }
     ensures { λ _. ⌜ Chosen n m (now (owners .entry)) (now (costs .entry)) (now (froms .entry)) (now (tos .entry)) (now (values .entry)) (now (choices .entry)) (now (choices .exit)) ⌝ }
 {

@@ -3,7 +3,8 @@ ghost use mathlib.Core.Path.{_≡_};
 ghost use Prim.Native.Nat.{_<_, _≤_};
 ghost use mathlib.Core.Bool.{true, false};
 ghost use lib.ListN.{length, getD};
-ghost use Rattle.value.specs.RowLaws.{Filled, Marked, numberAt, setIf};
+ghost use Rattle.chart.specs.Loaded.{Filled};
+ghost use Rattle.value.specs.RowLaws.{Marked, numberAt, setIf};
 ghost use Rattle.value.specs.Held.{NextValue, Settling, Solved, Solving};
 ghost use Rattle.value.specs.Solve.{AtMove, Placing, PlacingAt, Within, firstFlag, bit, decides, disturbs, readyFlag};
 
@@ -13,7 +14,7 @@ pub const NONE: u16 = 65535;
 // The first n numbers become NONE.
 pub fn clear(n: usize, row: &mut [u16])
     requires { ⌜ n ≤ length (now row) ⌝ }
-    ensures { λ _. ⌜ Filled n (λ v. 65535) (now (row .entry)) (now (row .exit)) ⌝ }
+    ensures { λ _. ⌜ Filled (now (row .entry)) (now (row .exit)) n (λ v. 65535) ⌝ }
 {
     let mut v: usize = 0;
     while v < n {
@@ -56,16 +57,12 @@ fn place(n: usize, flags: &[u8], k: u16, s: u16, values: &mut [u16], steps: &mut
 fn first_flag(owner: u8) -> u8
     ensures { λ r. ⌜ r ≡ firstFlag owner ⌝ }
 {
-    if owner == 0 {
-        1
-    } else {
-        0
-    }
+    if owner == 0 { 1 } else { 0 }
 }
 
 fn flag_owners(n: usize, owners: &[u8], flags: &mut [u8])
     requires { ⌜ (n ≤ length (now owners)) × (n ≤ length (now flags)) ⌝ }
-    ensures { λ _. ⌜ Filled n (λ v. readyFlag (now (owners .entry)) v false) (now (flags .entry)) (now (flags .exit)) ⌝ }
+    ensures { λ _. ⌜ Filled (now (flags .entry)) (now (flags .exit)) n (λ v. readyFlag (now (owners .entry)) v false) ⌝ }
 {
     let mut v: usize = 0;
     while v < n {
@@ -75,7 +72,15 @@ fn flag_owners(n: usize, owners: &[u8], flags: &mut [u8])
 }
 
 // Sets the flag of the position that the i-th move leaves, if that move decides it.
-fn flag_ready_by(i: usize, owners: &[u8], costs: &[u8], froms: &[u16], tos: &[u16], values: &[u16], flags: &mut [u8])
+fn flag_ready_by(
+    i: usize,
+    owners: &[u8],
+    costs: &[u8],
+    froms: &[u16],
+    tos: &[u16],
+    values: &[u16],
+    flags: &mut [u8],
+)
     requires { ⌜ AtMove i (now costs) (now froms) (now tos) (now values) (now flags) × (getD (now froms) i 0 < length (now owners)) ⌝ }
     ensures { λ _. ⌜ now (flags .exit) ≡ setIf (decides (now (owners .entry)) (now (costs .entry)) (now (froms .entry)) (now (tos .entry)) (now (values .entry)) i) (getD (now (froms .entry)) i 0) (readyFlag (now (owners .entry)) (getD (now (froms .entry)) i 0) true) (now (flags .entry)) ⌝ }
 {
@@ -96,7 +101,16 @@ fn flag_ready_by(i: usize, owners: &[u8], costs: &[u8], froms: &[u16], tos: &[u1
 }
 
 // Flags the positions that join round (k, s + 1): at O all meant targets are placed, at L one is.
-fn flag_ready(n: usize, m: usize, owners: &[u8], costs: &[u8], froms: &[u16], tos: &[u16], values: &[u16], flags: &mut [u8])
+fn flag_ready(
+    n: usize,
+    m: usize,
+    owners: &[u8],
+    costs: &[u8],
+    froms: &[u16],
+    tos: &[u16],
+    values: &[u16],
+    flags: &mut [u8],
+)
     requires { ⌜ Within n m (now costs) (now froms) (now tos) × (n ≤ length (now owners)) × (n ≤ length (now values)) × (n ≤ length (now flags)) ⌝ }
     ensures { λ _. ⌜ Marked n (numberAt (now (froms .entry))) (decides (now (owners .entry)) (now (costs .entry)) (now (froms .entry)) (now (tos .entry)) (now (values .entry))) (readyFlag (now (owners .entry))) m (now (flags .exit)) ⌝ }
 {
@@ -109,7 +123,15 @@ fn flag_ready(n: usize, m: usize, owners: &[u8], costs: &[u8], froms: &[u16], to
 }
 
 // Flags the position that the i-th move leaves, if that move is a disturbance into value k.
-fn flag_disturbed_by(i: usize, k: u16, costs: &[u8], froms: &[u16], tos: &[u16], values: &[u16], flags: &mut [u8])
+fn flag_disturbed_by(
+    i: usize,
+    k: u16,
+    costs: &[u8],
+    froms: &[u16],
+    tos: &[u16],
+    values: &[u16],
+    flags: &mut [u8],
+)
     requires { ⌜ AtMove i (now costs) (now froms) (now tos) (now values) (now flags) ⌝ }
     ensures { λ _. ⌜ now (flags .exit) ≡ setIf (disturbs (now (costs .entry)) (now (tos .entry)) (now (values .entry)) k i) (getD (now (froms .entry)) i 0) 1 (now (flags .entry)) ⌝ }
 {
@@ -125,7 +147,7 @@ fn flag_disturbed_by(i: usize, k: u16, costs: &[u8], froms: &[u16], tos: &[u16],
 
 fn flag_none(n: usize, flags: &mut [u8])
     requires { ⌜ n ≤ length (now flags) ⌝ }
-    ensures { λ _. ⌜ Filled n (λ v. 0) (now (flags .entry)) (now (flags .exit)) ⌝ }
+    ensures { λ _. ⌜ Filled (now (flags .entry)) (now (flags .exit)) n (λ v. 0) ⌝ }
 {
     let mut v: usize = 0;
     while v < n {
@@ -135,7 +157,16 @@ fn flag_none(n: usize, flags: &mut [u8])
 }
 
 // Flags the positions with a disturbance into value k: those that join round (k + 1, 0).
-fn flag_disturbed(n: usize, m: usize, k: u16, costs: &[u8], froms: &[u16], tos: &[u16], values: &[u16], flags: &mut [u8])
+fn flag_disturbed(
+    n: usize,
+    m: usize,
+    k: u16,
+    costs: &[u8],
+    froms: &[u16],
+    tos: &[u16],
+    values: &[u16],
+    flags: &mut [u8],
+)
     requires { ⌜ Within n m (now costs) (now froms) (now tos) × (n ≤ length (now values)) × (n ≤ length (now flags)) ⌝ }
     ensures { λ _. ⌜ Marked n (numberAt (now (froms .entry))) (disturbs (now (costs .entry)) (now (tos .entry)) (now (values .entry)) k) (λ v. bit) m (now (flags .exit)) ⌝ }
 {
@@ -149,8 +180,16 @@ fn flag_disturbed(n: usize, m: usize, k: u16, costs: &[u8], froms: &[u16], tos: 
 
 // The rounds (k, 1), (k, 2), .. up to the first that places nobody.
 fn settle(
-    n: usize, m: usize, owners: &[u8], costs: &[u8], froms: &[u16], tos: &[u16], k: u16,
-    flags: &mut [u8], values: &mut [u16], steps: &mut [u16]
+    n: usize,
+    m: usize,
+    owners: &[u8],
+    costs: &[u8],
+    froms: &[u16],
+    tos: &[u16],
+    k: u16,
+    flags: &mut [u8],
+    values: &mut [u16],
+    steps: &mut [u16],
 )
     requires { ⌜ Within n m (now costs) (now froms) (now tos) × (n ≤ 512) × (k < 65535) × (n ≤ length (now owners)) × (n ≤ length (now flags)) × (n ≤ length (now values)) × (n ≤ length (now steps)) ⌝ }
     ensures { λ _. ⌜ Settling n m (now (owners .entry)) (now (costs .entry)) (now (froms .entry)) (now (tos .entry)) k n (now (values .entry)) (now (steps .entry)) (now (values .exit)) (now (steps .exit)) ⌝ }
@@ -168,8 +207,16 @@ fn settle(
 
 // The rounds of value 0.
 fn first_value(
-    n: usize, m: usize, owners: &[u8], marks: &[u8], costs: &[u8], froms: &[u16], tos: &[u16],
-    flags: &mut [u8], values: &mut [u16], steps: &mut [u16]
+    n: usize,
+    m: usize,
+    owners: &[u8],
+    marks: &[u8],
+    costs: &[u8],
+    froms: &[u16],
+    tos: &[u16],
+    flags: &mut [u8],
+    values: &mut [u16],
+    steps: &mut [u16],
 )
     requires { ⌜ Within n m (now costs) (now froms) (now tos) × (n ≤ 512) × (n ≤ length (now owners)) × (n ≤ length (now marks)) × (n ≤ length (now flags)) × (n ≤ length (now values)) × (n ≤ length (now steps)) ⌝ }
     ensures { λ _. ⌜ Solving n m (now (owners .entry)) (now (marks .entry)) (now (costs .entry)) (now (froms .entry)) (now (tos .entry)) 0 (now (values .entry)) (now (steps .entry)) (now (values .exit)) (now (steps .exit)) ⌝ }
@@ -182,8 +229,16 @@ fn first_value(
 
 // The rounds of the value after the last one, up to the first that places nobody. Counts what its first round places.
 fn next_value(
-    n: usize, m: usize, owners: &[u8], costs: &[u8], froms: &[u16], tos: &[u16], last: u16,
-    flags: &mut [u8], values: &mut [u16], steps: &mut [u16]
+    n: usize,
+    m: usize,
+    owners: &[u8],
+    costs: &[u8],
+    froms: &[u16],
+    tos: &[u16],
+    last: u16,
+    flags: &mut [u8],
+    values: &mut [u16],
+    steps: &mut [u16],
 ) -> usize
     requires { ⌜ Within n m (now costs) (now froms) (now tos) × (n ≤ 512) × (last < 512) × (n ≤ length (now owners)) × (n ≤ length (now flags)) × (n ≤ length (now values)) × (n ≤ length (now steps)) ⌝ }
     ensures { λ r. ⌜ NextValue n m (now (owners .entry)) (now (costs .entry)) (now (froms .entry)) (now (tos .entry)) last (now (values .entry)) (now (steps .entry)) (now (values .exit)) (now (steps .exit)) r ⌝ }
@@ -200,17 +255,46 @@ fn next_value(
 
 // Values and steps by rounds: 65,535 for "ever" and its dash.
 pub fn solve(
-    n: usize, m: usize, owners: &[u8], marks: &[u8], costs: &[u8], froms: &[u16], tos: &[u16],
-    values: &mut [u16], steps: &mut [u16]
+    n: usize,
+    m: usize,
+    owners: &[u8],
+    marks: &[u8],
+    costs: &[u8],
+    froms: &[u16],
+    tos: &[u16],
+    values: &mut [u16],
+    steps: &mut [u16],
 )
     requires { ⌜ Within n m (now costs) (now froms) (now tos) × (n ≤ 512) × (n ≤ length (now owners)) × (n ≤ length (now marks)) × (n ≤ length (now values)) × (n ≤ length (now steps)) ⌝ }
     ensures { λ _. ⌜ Solved n m (now (owners .entry)) (now (marks .entry)) (now (costs .entry)) (now (froms .entry)) (now (tos .entry)) (now (values .entry)) (now (steps .entry)) (now (values .exit)) (now (steps .exit)) ⌝ }
 {
     let mut flags = [0u8; 512];
-    first_value(n, m, owners, marks, costs, froms, tos, &mut flags, values, steps);
+    first_value(
+        n,
+        m,
+        owners,
+        marks,
+        costs,
+        froms,
+        tos,
+        &mut flags,
+        values,
+        steps,
+    );
     let mut last: u16 = 0;
     while (last as usize) < n {
-        let count = next_value(n, m, owners, costs, froms, tos, last, &mut flags, values, steps);
+        let count = next_value(
+            n,
+            m,
+            owners,
+            costs,
+            froms,
+            tos,
+            last,
+            &mut flags,
+            values,
+            steps,
+        );
         if count == 0 {
             return;
         }

@@ -25,7 +25,7 @@ clear-requires : tie.Need-clear-requires Inv-loop μ-loop
 clear-requires c κs = omega arith
 
 loop-holds : tie.Need-loop-holds Inv-loop μ-loop
-loop-holds c = (omega arith, refl, choosing-none (c .before .before .clear .ensures .done))
+loop-holds c = (omega arith, refl, choosing-none (c .before .before .clear .ensures .row))
 
 choose-by-requires : tie.Need-choose-by-requires Inv-loop μ-loop
 choose-by-requires c κs =

@@ -4,7 +4,7 @@ use native.Mathlib.Omega.{arith}
 use borrow.Author.Needs.{needs}
 use lib.ListN.{length, getD, set, length-set}
 use Rattle.value.specs.Solve.{firstFlag}
-use Rattle.value.specs.Cases.{cases}
+use Rattle.field.proofs.Cases.{cases}
 use Rattle.value.proofs.solve.first_flag.Statement.{statement}
 use Rattle.value.proofs.solve.first_flag.Tie as tie
 use Rattle.value.proofs.solve.first_flag.Reads as reads

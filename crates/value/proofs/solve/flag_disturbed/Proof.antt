@@ -25,7 +25,7 @@ flag-none-requires : tie.Need-flag-none-requires Inv-loop μ-loop
 flag-none-requires c κs = omega arith
 
 loop-holds : tie.Need-loop-holds Inv-loop μ-loop
-loop-holds c = (omega arith, refl, marked-none (c .before .before .flag-none .ensures .done))
+loop-holds c = (omega arith, refl, marked-none (c .before .before .flag-none .ensures .row))
 
 flag-disturbed-by-requires : tie.Need-flag-disturbed-by-requires Inv-loop μ-loop
 flag-disturbed-by-requires c κs = at-move (c .before .before .before .before .before .before .before .before .before .before .before .before .pre .0) _ _ (omega arith) (omega arith) _ (c .before .loop-test .taken)

@@ -6,20 +6,22 @@ use borrow.Author.Needs.{needs}
 use mathlib.Core.Path.{_≡_, refl}
 use lib.ListN.{length, getD, set, length-set}
 use mathlib.Core.Bool.{true}
-use Rattle.value.specs.RowLaws.{Filled, filled-none, filled-next}
+use Rattle.value.specs.RowLaws.{filled-next}
+use Rattle.chart.specs.Loaded.{Filled}
+use Rattle.chart.specs.Filled.{filled-none}
 use Rattle.value.proofs.solve.flag_none.Statement.{statement}
 use Rattle.value.proofs.solve.flag_none.Tie as tie
 use Rattle.value.proofs.solve.flag_none.Reads as reads
 use Rattle.value.proofs.solve.flag_none.Lts as lts
 
 abbrev Inv-loop : tie.InvT-loop
-Inv-loop n flags₀ v₀ flags v = (v ≤ n) × (length flags ≡ length flags₀) × Filled v (λ j. 0) flags₀ flags
+Inv-loop n flags₀ v₀ flags v = (v ≤ n) × Filled flags₀ flags v (λ j. 0)
 
 abbrev μ-loop : tie.MeasureT-loop
 μ-loop n flags₀ v₀ flags v = n - v
 
 loop-holds : tie.Need-loop-holds Inv-loop μ-loop
-loop-holds c = (omega arith, refl, filled-none _ _)
+loop-holds c = (omega arith, filled-none _ _)
 
 slice-write-flags : tie.Need-slice-write-flags Inv-loop μ-loop
 slice-write-flags c = omega arith
@@ -31,13 +33,13 @@ loop-less : tie.Need-loop-less Inv-loop μ-loop
 loop-less c = omega arith
 
 loop-again : tie.Need-loop-again Inv-loop μ-loop
-loop-again c = (omega arith, simp length-set (omega arith), filled-next (c .before .loop .inv .2) true 0 (omega arith) refl)
+loop-again c = (omega arith, filled-next (c .before .loop .inv .1) true 0 (omega arith) refl)
 
 same-length : tie.Need-same-length Inv-loop μ-loop
-same-length c = c .before .loop .inv .1
+same-length c = c .before .loop .inv .1 .same-length
 
 returns : tie.Need-returns Inv-loop μ-loop
-returns c = rw (← le-antisymm (c .before .loop .inv .0) (c .loop-test .left)) (c .before .loop .inv .2)
+returns c = rw (← le-antisymm (c .before .loop .inv .0) (c .loop-test .left)) (c .before .loop .inv .1)
 
 pub flag-none-spec : {M : Type 1} → statement M
 flag-none-spec =

@@ -6,7 +6,9 @@ use borrow.Author.Needs.{needs}
 use mathlib.Core.Path.{_≡_, refl, sym, _∙_}
 use lib.ListN.{length, getD, set, length-set}
 use mathlib.Core.Bool.{true, false}
-use Rattle.value.specs.RowLaws.{Filled, filled-none, filled-next}
+use Rattle.value.specs.RowLaws.{filled-next}
+use Rattle.chart.specs.Loaded.{Filled}
+use Rattle.chart.specs.Filled.{filled-none}
 use Rattle.value.specs.Solve.{readyFlag, ready-flag-first}
 use Rattle.value.proofs.solve.flag_owners.Statement.{statement}
 use Rattle.value.proofs.solve.flag_owners.Tie as tie
@@ -15,13 +17,13 @@ use Rattle.value.proofs.solve.flag_owners.Lts as lts
 use Rattle.value.proofs.solve.first_flag.Reads as first-flag-reads
 
 abbrev Inv-loop : tie.InvT-loop
-Inv-loop n owners flags₀ v₀ flags v = (v ≤ n) × (length flags ≡ length flags₀) × Filled v (λ j. readyFlag owners j false) flags₀ flags
+Inv-loop n owners flags₀ v₀ flags v = (v ≤ n) × Filled flags₀ flags v (λ j. readyFlag owners j false)
 
 abbrev μ-loop : tie.MeasureT-loop
 μ-loop n owners flags₀ v₀ flags v = n - v
 
 loop-holds : tie.Need-loop-holds Inv-loop μ-loop
-loop-holds c = (omega arith, refl, filled-none _ _)
+loop-holds c = (omega arith, filled-none _ _)
 
 shared-slice-read-first-flag : tie.Need-shared-slice-read-first-flag Inv-loop μ-loop
 shared-slice-read-first-flag c = omega arith
@@ -39,13 +41,13 @@ loop-less : tie.Need-loop-less Inv-loop μ-loop
 loop-less c = omega arith
 
 loop-again : tie.Need-loop-again Inv-loop μ-loop
-loop-again c = (omega arith, simp length-set (omega arith), filled-next (c .before .before .before .loop .inv .2) true (c .first-flag .result) (omega arith) (ready-flag-first _ _ ∙ sym (c .first-flag .ensures)))
+loop-again c = (omega arith, filled-next (c .before .before .before .loop .inv .1) true (c .first-flag .result) (omega arith) (ready-flag-first _ _ ∙ sym (c .first-flag .ensures)))
 
 same-length : tie.Need-same-length Inv-loop μ-loop
-same-length c = c .before .loop .inv .1
+same-length c = c .before .loop .inv .1 .same-length
 
 returns : tie.Need-returns Inv-loop μ-loop
-returns c = rw (← le-antisymm (c .before .loop .inv .0) (c .loop-test .left)) (c .before .loop .inv .2)
+returns c = rw (← le-antisymm (c .before .loop .inv .0) (c .loop-test .left)) (c .before .loop .inv .1)
 
 pub flag-owners-spec : {M : Type 1} → statement M
 flag-owners-spec =

@@ -25,7 +25,7 @@ flag-owners-requires : tie.Need-flag-owners-requires Inv-loop μ-loop
 flag-owners-requires c κs = omega arith
 
 loop-holds : tie.Need-loop-holds Inv-loop μ-loop
-loop-holds c = (omega arith, refl, marked-none (c .before .before .flag-owners .ensures .done))
+loop-holds c = (omega arith, refl, marked-none (c .before .before .flag-owners .ensures .row))
 
 flag-ready-by-requires : tie.Need-flag-ready-by-requires Inv-loop μ-loop
 flag-ready-by-requires c κs = (at-move (c .before .before .before .before .before .before .before .before .before .before .before .before .before .pre .0) _ _ (omega arith) (omega arith) _ (c .before .loop-test .taken), omega (arith, c .before .before .before .before .before .before .before .before .before .before .before .before .before .pre .0 .from-inside _ (c .before .loop-test .taken)))

@@ -5,7 +5,7 @@ use borrow.Author.Needs.{needs}
 use lib.ListN.{length, getD, set, length-set}
 use borrow.Author.Needs.{needs}
 use Rattle.value.specs.Solve.{taken}
-use Rattle.value.specs.Cases.{cases}
+use Rattle.field.proofs.Cases.{cases}
 use Rattle.value.proofs.solve.place_one.Statement.{statement}
 use Rattle.value.proofs.solve.place_one.Tie as tie
 use Rattle.value.proofs.solve.place_one.Reads as reads
