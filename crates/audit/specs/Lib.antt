@@ -3,3 +3,8 @@ pub mod Sheet
 pub mod Verdict
 pub mod VerdictLaws
 pub mod Walk
+pub mod Numbers
+pub mod Shown
+pub mod RowFault
+pub mod Checked
+pub mod CheckedLaws

@@ -42,8 +42,8 @@ lessOneNumber x = cond (eqb x 65535) 65535 (cond (eqb x 0) 0 (x - 1))
 abbrev pub shownMeant : Line → Target → Seen
 shownMeant l t =
     record {
-      chosen = eqb (t .to) (l .choice);
-      low = (not (isController l) || eqb (t .to) (l .choice)) && ltb (t .value) (l .value);
+      chosen = eqb (l .choice) (t .to);
+      low = (not (isController l) || eqb (l .choice) (t .to)) && ltb (t .value) (l .value);
       ruin = not (isController l) && earlierTarget l t;
       late = not (earlierTarget l t);
     }

@@ -2,11 +2,14 @@
 -- faults of the arena is a law.
 use Prim.Native.Nat.{ℕ, _≤_, _<_}
 use mathlib.Core.Path.{_≡_}
+use mathlib.Core.Logic.{_⊎_}
 use mathlib.Core.Bool.{Bool, cond}
 use mathlib.Core.List.{List}
 use lib.ListN.{length, getD}
 use lib.Dec.{eqb}
+use Rattle.game.specs.Value.{Value}
 use Rattle.value.specs.RowLaws.{found, numberAt}
+use Rattle.value.specs.Summarize.{rowValue}
 use Rattle.audit.specs.Position.{afterMoves, beforeMoves, shown}
 use Rattle.audit.specs.declared.position.Line.{Line}
 use Rattle.audit.specs.declared.position.Target.{Target}
@@ -27,6 +30,16 @@ abbrev pub sheet : (owners marks costs froms tos values choices steps : List ℕ
 sheet owners marks costs froms tos values choices steps =
     record { owners = owners; marks = marks; costs = costs; froms = froms; tos = tos; values = values; choices = choices; steps = steps }
 
+-- the plate's columns, as values
+abbrev pub valueAt : Sheet → ℕ → Value
+valueAt s = rowValue (s .values)
+
+abbrev pub choiceAt : Sheet → ℕ → Value
+choiceAt s = rowValue (s .choices)
+
+abbrev pub stepAt : Sheet → ℕ → Value
+stepAt s = rowValue (s .steps)
+
 -- the rows of positions have n numbers
 pub record Sized (n : ℕ) (owners marks values choices steps : List ℕ) : Type 0 where
   pub owners-row : n ≤ length owners
@@ -34,6 +47,11 @@ pub record Sized (n : ℕ) (owners marks values choices steps : List ℕ) : Type
   pub values-row : n ≤ length values
   pub choices-row : n ≤ length choices
   pub steps-row : n ≤ length steps
+
+-- values and steps in the plate's form: 65,535 or below 512
+pub record Formed (n : ℕ) (values steps : List ℕ) : Type 0 where
+  pub value : (v : ℕ) → v < n → (getD values v 0 ≡ 65535) ⊎ (getD values v 0 < 512)
+  pub step : (v : ℕ) → v < n → (getD steps v 0 ≡ 65535) ⊎ (getD steps v 0 < 512)
 
 -- the moves of a position lie together, by the positions' order
 abbrev pub Ascending : ℕ → List ℕ → Type 0

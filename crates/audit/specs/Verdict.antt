@@ -26,8 +26,7 @@ pub record HeaderIs (n : ℕ) (value step : ℕ → Value) (h : Summary) : Type 
 -- the same as a test
 unfoldable pub headerRight : ℕ → (value step : ℕ → Value) → Summary → Bool
 headerRight n value step h =
-    eqb (h .rounds) (pairCount value step n)
-    && (eqb (h .highest) (numberOf (highest value n)) && eqb (h .evers) (everCount value n))
+    eqb (h .rounds) (pairCount value step n) && eqb (h .highest) (numberOf (highest value n)) && eqb (h .evers) (everCount value n)
 
 -- 6, "answered with position n"
 unfoldable pub headerVerdict : ℕ → (value step : ℕ → Value) → Summary → Verdict

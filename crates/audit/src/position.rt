@@ -112,7 +112,7 @@ fn show(line: Line, target: Target) -> Seen
             late: false,
         };
     }
-    let chosen = target.to == line.choice;
+    let chosen = line.choice == target.to;
     let lane = line.owner != 0;
     let sooner = earlier(line, target);
     Seen {

@@ -119,7 +119,7 @@ module _ (a : Arena) (n m : ℕ) (owners costs froms tos : List ℕ) (d : Decode
   to-inside j l = rw (← d .positions) (d .well .to-position (moveAt a j) (at-member noMove (a .moves) j (rw (d .moves) l)))
 
   -- the lines that leave v with a property are the moves with it, if the property is false of moves that leave another
-  lines-of : (v : ℕ) (q : ℕ → Bool) (p : Move → Bool)
+  pub lines-of : (v : ℕ) (q : ℕ → Bool) (p : Move → Bool)
       → ((j : ℕ) → j < m → moveAt a j .from ≡ v → q j ≡ p (moveAt a j))
       → ((x : Move) → eqb (x .from) v ≡ false → p x ≡ false)
       → found (numberAt froms) q m v ≡ someMove p (a .moves)

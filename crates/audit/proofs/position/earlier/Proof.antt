@@ -1,5 +1,5 @@
 -- `earlier` meets its contract: each answer by the tests that led to it.
-use Rattle.value.specs.Cases.{cases}
+use Rattle.field.proofs.Cases.{cases}
 use Rattle.audit.specs.Position.{earlierTarget}
 use Rattle.audit.proofs.position.earlier.Statement.{statement}
 use Rattle.audit.proofs.position.earlier.Tie as tie

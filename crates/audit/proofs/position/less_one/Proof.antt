@@ -1,6 +1,6 @@
 -- `less_one` meets its contract: each answer by the tests that led to it.
 use borrow.Author.Needs.{needs}
-use Rattle.value.specs.Cases.{cases}
+use Rattle.field.proofs.Cases.{cases}
 use Rattle.audit.specs.Position.{lessOneNumber}
 use Rattle.audit.proofs.position.less_one.Statement.{statement}
 use Rattle.audit.proofs.position.less_one.Tie as tie
