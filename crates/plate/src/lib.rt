@@ -8,6 +8,7 @@ ghost use lib.Seq.{sets};
 ghost use Rattle.field.specs.Text.{five};
 ghost use Rattle.game.specs.Value.{valueOf};
 ghost use Rattle.plate.specs.Text.{entryAt, withEntry, sameText, lineText, valueEntry, dashEntry, positionLine, positionLines, plateText, column};
+ghost use Rattle.plate.specs.Formed.{numberIs, numberBelow, dashOrBelow, everOrBelow, framed, headerGood, positionGood, firstBad, formOf};
 use field::Field;
 
 // The bytes of a line.
@@ -29,6 +30,12 @@ pub struct Header {
     pub rounds: u16,
     pub highest: u16,
     pub evers: u16,
+}
+
+// What examining a plate finds: the form, or the lowest line that is not of it.
+pub enum Form {
+    Good,
+    Bad(usize),
 }
 
 // A plate of n positions into `out`; what lies past its last line stays. The bounds keep the rows and the buffer long enough,
@@ -143,6 +150,143 @@ fn write_word(b: u8, c: u8, d: u8, e: u8, text: &mut [u8], at: usize)
     text[at + 2] = c;
     text[at + 3] = d;
     text[at + 4] = e;
+}
+
+// Whether a text is a plate of n positions of the form under 11, and if not its lowest bad line. Its length is tested first, as
+// line 0.
+pub fn examine_plate(n: usize, plate: &[u8]) -> Form
+    ensures { λ r. ⌜ r ≡ formOf n (now (plate .entry)) ⌝ }
+{
+    let lines = plate.len() / LINE;
+    if plate.len() % LINE != 0 {
+        return Form::Bad(0);
+    }
+    if lines == 0 {
+        return Form::Bad(0);
+    }
+    if lines - 1 != n {
+        return Form::Bad(0);
+    }
+    if !header_good(n, plate) {
+        return Form::Bad(0);
+    }
+    positions_form(n, plate)
+}
+
+// The lowest bad line after the first.
+fn positions_form(n: usize, plate: &[u8]) -> Form
+    requires { ⌜ (n + 1) * 22 ≤ length (now plate) ⌝ }
+    ensures { λ r. ⌜ r ≡ firstBad (positionGood n (now (plate .entry))) n 0 ⌝ }
+{
+    let mut v = 0;
+    while v < n {
+        if !position_good(n, plate, v) {
+            return Form::Bad(v + 1);
+        }
+        v += 1;
+    }
+    Form::Good
+}
+
+// The first line: n, rounds, highest, count of "ever".
+fn header_good(n: usize, plate: &[u8]) -> bool
+    requires { ⌜ 22 ≤ length (now plate) ⌝ }
+    ensures { λ r. ⌜ r ≡ headerGood n (now (plate .entry)) ⌝ }
+{
+    if !framed(plate, 0, b'P') {
+        return false;
+    }
+    if !number_is(plate, 1, n) {
+        return false;
+    }
+    if !number_below(plate, 6, 513) {
+        return false;
+    }
+    if !dash_or_below(plate, 11, 512) {
+        return false;
+    }
+    number_below(plate, 16, 513)
+}
+
+// A position's line: position, value, choice, step.
+fn position_good(n: usize, plate: &[u8], v: usize) -> bool
+    requires { ⌜ (v + 2) * 22 ≤ length (now plate) ⌝ }
+    ensures { λ r. ⌜ r ≡ positionGood n (now (plate .entry)) v ⌝ }
+{
+    let at = (v + 1) * LINE;
+    if !framed(plate, at, b'V') {
+        return false;
+    }
+    if !number_is(plate, at + 1, v) {
+        return false;
+    }
+    if !ever_or_below(plate, at + 6, 512) {
+        return false;
+    }
+    if !dash_or_below(plate, at + 11, n) {
+        return false;
+    }
+    dash_or_below(plate, at + 16, 512)
+}
+
+// A line begins with the letter and ends with a line feed.
+fn framed(plate: &[u8], at: usize, letter: u8) -> bool
+    requires { ⌜ at + 22 ≤ length (now plate) ⌝ }
+    ensures { λ r. ⌜ r ≡ framed (now (plate .entry)) at letter ⌝ }
+{
+    if plate[at] != letter {
+        return false;
+    }
+    plate[at + 21] == 10
+}
+
+// What an entry is: one number, a number below a bound, or else a dash, or else "ever".
+fn number_is(plate: &[u8], at: usize, n: usize) -> bool
+    requires { ⌜ at + 5 ≤ length (now plate) ⌝ }
+    ensures { λ r. ⌜ r ≡ numberIs n (entryAt (now (plate .entry)) at) ⌝ }
+{
+    match read_entry(plate, at) {
+        Entry::Number(x) => x as usize == n,
+        Entry::Dash => false,
+        Entry::Ever => false,
+        Entry::Bad => false,
+    }
+}
+
+fn number_below(plate: &[u8], at: usize, bound: usize) -> bool
+    requires { ⌜ at + 5 ≤ length (now plate) ⌝ }
+    ensures { λ r. ⌜ r ≡ numberBelow bound (entryAt (now (plate .entry)) at) ⌝ }
+{
+    match read_entry(plate, at) {
+        Entry::Number(x) => (x as usize) < bound,
+        Entry::Dash => false,
+        Entry::Ever => false,
+        Entry::Bad => false,
+    }
+}
+
+fn dash_or_below(plate: &[u8], at: usize, bound: usize) -> bool
+    requires { ⌜ at + 5 ≤ length (now plate) ⌝ }
+    ensures { λ r. ⌜ r ≡ dashOrBelow bound (entryAt (now (plate .entry)) at) ⌝ }
+{
+    match read_entry(plate, at) {
+        Entry::Number(x) => (x as usize) < bound,
+        Entry::Dash => true,
+        Entry::Ever => false,
+        Entry::Bad => false,
+    }
+}
+
+fn ever_or_below(plate: &[u8], at: usize, bound: usize) -> bool
+    requires { ⌜ at + 5 ≤ length (now plate) ⌝ }
+    ensures { λ r. ⌜ r ≡ everOrBelow bound (entryAt (now (plate .entry)) at) ⌝ }
+{
+    match read_entry(plate, at) {
+        Entry::Number(x) => (x as usize) < bound,
+        Entry::Dash => false,
+        Entry::Ever => true,
+        Entry::Bad => false,
+    }
 }
 
 // The entry at `at`. The bound keeps its five bytes within the text.
