@@ -6,3 +6,7 @@ pub mod Columns
 pub mod First
 pub mod Flags
 pub mod Header
+pub mod Good
+pub mod Loaded
+pub mod Filled
+pub mod Accepted

@@ -1,11 +1,13 @@
 -- The arena that a chart's text means, and the text of an arena (document 01, "The chart").
-use Prim.Native.Nat.{ℕ, zero, suc, _+_, _*_}
+use Prim.Native.Nat.{ℕ, zero, suc, _+_, _≤_, _<_}
+use mathlib.Core.Path.{_≡_}
+use mathlib.Core.Logic.{_⊎_}
 use mathlib.Core.Bool.{cond}
 use mathlib.Core.List.{List, [], _∷_, _++_}
 use lib.ListN.{length}
 use lib.Dec.{eqb}
 use Rattle.field.specs.Text.{numberText}
-use Rattle.game.specs.Arena.{Arena, Position, Move, Owner, controller, environment, size}
+use Rattle.game.specs.Arena.{Arena, Position, Move, Owner, controller, environment, size, positionAt, moveAt, WellFormed}
 use Rattle.chart.specs.Text.{letterAt, markAt, numberOf, positionsOf, movesOf, fromAt, toAt}
 
 -- "`O` (the console chooses) or `L` (the lane chooses)"
@@ -58,3 +60,17 @@ movesText (m ∷ ms) = lineText (costLetter (m .cost)) (m .from) (m .to) ++ move
 -- "First line: `H`, the count n of positions, the count m of moves", then the position lines and the move lines
 unfoldable pub chartText : Arena → List ℕ
 chartText a = lineText 72 (size a) (length (a .moves)) ++ (positionsText 0 (a .positions) ++ movesText (a .moves))
+
+-- "They rise strictly: by from, then M before D, then by to": b is above a
+unfoldable pub Rises : Move → Move → Type 0
+Rises a b = (a .from < b .from) ⊎ ((a .from ≡ b .from) × ((a .cost < b .cost) ⊎ ((a .cost ≡ b .cost) × (a .to < b .to))))
+
+-- the arenas that have a chart: well-formed, within the limits, marks 0 or 1, moves strictly rising
+pub record Chartable (a : Arena) : Type 0 where
+  pub well-formed : WellFormed a
+  pub some-position : 1 ≤ size a
+  pub few-positions : size a ≤ 512
+  pub some-move : 1 ≤ length (a .moves)
+  pub few-moves : length (a .moves) ≤ 4096
+  pub mark : (v : ℕ) → v < size a → positionAt a v .mark ≤ 1
+  pub rising : (i : ℕ) → i + 1 < length (a .moves) → Rises (moveAt a i) (moveAt a (i + 1))

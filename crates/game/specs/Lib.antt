@@ -44,3 +44,6 @@ pub mod RoundValues
 pub mod ConditionTests
 pub mod FaultLaws
 pub mod WellFormedTest
+pub mod ChartValues
+pub mod WrongValues
+pub mod WrongChoices

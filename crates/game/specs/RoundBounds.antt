@@ -1,4 +1,4 @@
--- In a well-formed arena every value begins with a settled table, so each of its rounds up to the last takes somebody:
+-- In a well-formed arena every value begins with a settled table, so each of its rounds up to the last takes a position:
 -- finite values and steps are at most n − 1.
 use Prim.Native.Nat.{ℕ, zero, suc, _<_}
 use native.Mathlib.Omega.{arith}
@@ -17,7 +17,7 @@ use Rattle.game.specs.TableIsRounds.{PlacedIn, ready-joins}
 use Rattle.game.specs.SummaryLaws.{highest-occurs}
 
 module _ (a : Arena) (wf : WellFormed a) where
-  -- nobody joins before anybody is placed, since "Each position has a meant move"
+  -- no position joins before one is placed, since "Each position has a meant move"
   pub settled-before : (k : ℕ) → Settled a (tableBefore a k)
   settled-before zero v t = alone (ownerAt a v) (ready-joins a (tableBefore a zero) v .0 (t .passes))
     where
@@ -28,7 +28,7 @@ module _ (a : Arena) (wf : WellFormed a) where
       alone environment some = is-not-placed (before-all a (some .0)) (some .2)
   settled-before (suc k) v t = before-settled a k v t
 
-  -- a round (k, s) that takes somebody has s below n
+  -- a round (k, s) that takes a position has s below n
   pub step-within-size : (k s v : ℕ) → RoundTakes a (tableBefore a k) k s v → s < size a
   step-within-size k zero v t = let l = before-length a k in let h = t .inside in omega arith
   step-within-size k (suc s) v t = go (settles a (tableBefore a k) k 1 (first (unchanged-or-fewer a (tableBefore a k) k 0)) s)

@@ -1,5 +1,5 @@
 -- Holding, of the rounds: the positions of value below x are those placed before the rounds of x, and that table is
--- settled. So nobody joins the positions of smaller value, and a disturbance is taken by the next value at the latest.
+-- settled. So no position joins those of smaller value, and a disturbance is taken by the next value at the latest.
 use Prim.Native.Nat.{ℕ, suc, _<_}
 use native.Mathlib.Omega.{arith}
 use mathlib.Core.Path.{_≡_, refl, sym, ap, _∙_, subst}
@@ -53,7 +53,7 @@ placed-is-below a ever w h =
     let p = placed-where (placementAt (table a) w) h in
     subst (λ (y : Value). y ≺ ever) (sym (value-of-placed (p .2))) (fin≺ever (p .0))
 
--- a disturbance into value j passes the test of round (j + 1, 0), and whoever passes it has one
+-- a disturbance into value j passes the test of round (j + 1, 0), and every position that passes it has one
 value-as-taken : (a : Arena) (w j : ℕ) → (roundValue a w ≡ fin j) ↔ T (hasValue j (placementAt (tableBefore a (suc j)) w))
 unfolding roundValue
 value-as-taken a w j = (
@@ -85,7 +85,7 @@ module _ (a : Arena) (wf : WellFormed a) where
   below-length (fin k) = before-length a k
   below-length ever = before-length a (size a)
 
-  -- whoever joins those of value below x is one of them
+  -- a position that joins those of value below x is one of them
   below-is-closed : (x : Value) (v : ℕ) → Joins a (λ w. roundValue a w ≺ x) v → roundValue a v ≺ x
   below-is-closed x v j = go (placed-or-not (placementAt (tableBelow a x) v))
     where
@@ -97,7 +97,7 @@ module _ (a : Arena) (wf : WellFormed a) where
       go (inr e) =
           absurd (below-settled x v (record { inside = rw (below-length x) (j .0); free = e; passes = ready-joins a (tableBelow a x) v .1 joins }))
 
-  -- so nobody joins those of smaller value
+  -- so no position joins those of smaller value
   pub no-joining-below : (v : ℕ) → v < size a → JoinsAs (ownerAt a v) a (λ w. roundValue a w ≺ roundValue a v) v → ⊥
   no-joining-below v h j = ≺irrefl (roundValue a v) (below-is-closed (roundValue a v) v (h, j))
 

@@ -1,4 +1,4 @@
--- Ruin, of the rounds: whoever is placed at (k, s) was taken by round (k, s), and what that round saw was placed before.
+-- Ruin, of the rounds: a position placed at (k, s) was taken by round (k, s), and what that round saw was placed before.
 use Prim.Native.Nat.{ℕ, zero, suc}
 use native.Mathlib.Omega.{arith}
 use mathlib.Core.Path.{_≡_, sym, ap, ap₂, _∙_, subst, subst₂}
@@ -24,7 +24,7 @@ module _ (a : Arena) (wf : WellFormed a) where
   abbrev pub Before : ℕ → ℕ → Type 0
   Before w v = Earlier a (roundValue a) (bestAt a (roundValue a)) (roundStep a) w v
 
-  -- who is placed by round (k, r) is earlier than (k, r + 1)
+  -- a position placed by round (k, r) is earlier than (k, r + 1)
   placed-is-earlier : (k r v w : ℕ) → placementAt (table a) v ≡ placed k (suc r) → PlacedIn (tableAfter a (tableBefore a k) k r) w
       → Before w v
   unfolding roundValue roundStep

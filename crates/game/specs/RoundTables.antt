@@ -1,4 +1,4 @@
--- The tables of the rounds, one after the other: each has the placements of those before it, and whoever is placed at
+-- The tables of the rounds, one after the other: each has the placements of those before it, and a position at
 -- (k, s) was taken by round (k, s).
 use Prim.Native.Nat.{ℕ, zero, suc, _≤_, _<_}
 use native.Mathlib.Decide.{le-ind, decLt}
@@ -45,13 +45,13 @@ module _ (a : Arena) (start : Table) (k : ℕ) where
   after-start zero = place-extends (begins a k start) (placed k 0) start
   after-start (suc s) = extends-trans (after-start s) (after-next s)
 
-  -- whom a round takes is placed by it
+  -- a position that a round takes is placed by it
   pub taken-is-placed : (s v : ℕ) → RoundTakes a start k s v → placementAt (tableAfter a start k s) v ≡ placed k s
   unfolding tableAfter
   taken-is-placed zero v h = place-takes (begins a k start) (placed k 0) start v h
   taken-is-placed (suc s) v h = place-takes (ready a (tableAfter a start k s)) (placed k (suc s)) (tableAfter a start k s) v h
 
-  -- who is placed was placed before, or taken by a round of this value
+  -- a position that is placed was placed before, or taken by a round of this value
   pub record TakenAt (s v i r : ℕ) : Type 0 where
     pub this-value : i ≡ k
     pub by-now : r ≤ s
@@ -98,7 +98,7 @@ before-later a k j h =
     le-ind (λ (i : ℕ). Extends (tableBefore a k) (tableBefore a i)) (extends-refl (tableBefore a k))
     (λ i l x. extends-trans x (before-next a i)) j h
 
--- "not yet placed": nobody is, before the first round
+-- no position is placed before the first round
 pub before-all : (a : Arena) (v : ℕ) → placementAt (tableBefore a zero) v ≡ unplaced
 unfolding tableBefore
 before-all a v = go (decLt v (size a))
@@ -107,7 +107,7 @@ before-all a v = go (decLt v (size a))
     go (yes h) = getD-replicate (size a) v unplaced unplaced h
     go (no g) = List·getD-eq-default (replicate (size a) unplaced) unplaced (rw (length-replicate (size a) unplaced) (omega arith))
 
--- who is placed before the rounds of value k was taken by a round of a smaller value
+-- a position placed before the rounds of value k was taken by a round of a smaller value
 pub record TakenBefore (a : Arena) (k v i r : ℕ) : Type 0 where
   pub smaller : i < k
   pub by-size : r ≤ size a

@@ -1,5 +1,5 @@
--- The rounds end. A round that takes nobody leaves the table, and then every later round of the value does; each other
--- round leaves fewer positions free, so after n steps a value is settled, and after n values nobody more is placed.
+-- The rounds end. A round that takes no position leaves the table, and then every later round of the value does; each other
+-- round leaves fewer positions free, so after n steps a value is settled, and after n values no more are placed.
 use Prim.Native.Nat.{ℕ, zero, suc, _+_, _≤_, _<_}
 use native.Mathlib.Decide.{le-ind, decLe}
 use native.Mathlib.Omega.{arith}
@@ -13,7 +13,7 @@ use Rattle.game.specs.MoveTests.{some-disturbance}
 use Rattle.game.specs.TableLaws.{Extends, extends-refl, Takes, place-none, place-none-or-fewer, unchanged-takes-none, freeCount, free-count-bound, none-free}
 use Rattle.game.specs.RoundTables.{RoundTakes, after-length, after-later, before-length, before-later, before-from, taken-is-placed}
 
--- nobody is free and ready
+-- no position is free and ready
 abbrev pub Settled : Arena → Table → Type 0
 Settled a t = (v : ℕ) → Takes (ready a t) t v → ⊥
 
@@ -57,7 +57,7 @@ module _ (a : Arena) (start : Table) (k : ℕ) where
       go (inl set) = set
       go (inr h) = λ v t. none-free (tableAfter a start k (size a)) v (omega arith) (t .inside) (t .free)
 
-  -- the steps of a value may stop at the first round that takes nobody
+  -- the steps of a value may stop at the first round that takes no position
   pub steps-stop-early : length start ≡ size a → (s : ℕ) → Settled a (tableAfter a start k s) → tableAfter a start k (size a) ≡ tableAfter a start k s
   steps-stop-early full s set = go (decLe s (size a))
     where
@@ -65,7 +65,7 @@ module _ (a : Arena) (start : Table) (k : ℕ) where
       go (yes h) = settled-stays s (size a) h set
       go (no g) = sym (settled-stays (size a) s (omega arith) (value-settles full))
 
-  -- the rounds of a value change nothing, or take somebody
+  -- the rounds of a value change nothing, or take a position
   pub unchanged-or-fewer : (s : ℕ) → (tableAfter a start k s ≡ start) ⊎ (freeCount (tableAfter a start k s) < freeCount start)
   unfolding tableAfter
   unchanged-or-fewer zero = place-none-or-fewer (begins a k start) k 0 0 start
@@ -83,7 +83,7 @@ module _ (a : Arena) (start : Table) (k : ℕ) where
       go (inr l) (inl f) = inr (subst (λ (x : Table). freeCount x < freeCount start) (sym f) l)
       go (inr l) (inr h) = inr (omega arith)
 
--- the rounds of value k take nobody
+-- the rounds of value k take no position
 abbrev pub Idle : Arena → ℕ → Type 0
 Idle a k = tableBefore a (suc k) ≡ tableBefore a k
 
@@ -97,7 +97,7 @@ module _ (a : Arena) where
   unfolding tableBefore
   next-value-begins k s set = steps-stop-early a (tableBefore a k) k (before-length a k) s set
 
-  -- a value is idle if its first round takes nobody and the table before it is settled
+  -- a value is idle if its first round takes no position and the table before it is settled
   pub quiet-value-is-idle : (k : ℕ) → Settled a (tableBefore a k) → ((v : ℕ) → Takes (begins a k (tableBefore a k)) (tableBefore a k) v → ⊥) → Idle a k
   unfolding tableBefore tableAfter
   quiet-value-is-idle k set quiet =
@@ -106,7 +106,7 @@ module _ (a : Arena) where
       first : tableAfter a (tableBefore a k) k 0 ≡ tableBefore a k
       first = place-none (begins a k (tableBefore a k)) (placed k 0) (tableBefore a k) quiet
 
-  -- after an idle value nobody has it, so nobody begins the next one
+  -- after an idle value no position has it, so none begins the next one
   idle-next : (k : ℕ) → Idle a k → Idle a (suc k)
   unfolding begins hasValue
   idle-next k idle = quiet-value-is-idle (suc k) (before-settled k) quiet
@@ -125,7 +125,7 @@ module _ (a : Arena) where
       le-ind (λ (i : ℕ). Idle a i × (tableBefore a i ≡ tableBefore a k)) (idle, refl)
       (λ i l e. (idle-next i (e .0), e .0 ∙ e .1)) j h .1
 
-  -- a value is idle or takes somebody
+  -- a value is idle or takes a position
   idle-or-takes : (k : ℕ) → Idle a k ⊎ (freeCount (tableBefore a (suc k)) < freeCount (tableBefore a k))
   unfolding tableBefore
   idle-or-takes k = unchanged-or-fewer a (tableBefore a k) k (size a)
@@ -164,7 +164,7 @@ module _ (a : Arena) where
       go (yes h) = idle-stays k (size a) h idle
       go (no g) = sym (values-end k (omega arith))
 
-  -- from value 1 on it is idle if its first round takes nobody
+  -- from value 1 on it is idle if its first round takes no position
   pub values-stop-at-a-quiet-round : (k : ℕ)
       → ((v : ℕ) → Takes (begins a (suc k) (tableBefore a (suc k))) (tableBefore a (suc k)) v → ⊥) → table a ≡ tableBefore a (suc k)
   values-stop-at-a-quiet-round k quiet = values-stop-early (suc k) (quiet-value-is-idle (suc k) (before-settled k) quiet)

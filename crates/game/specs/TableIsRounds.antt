@@ -1,16 +1,18 @@
 -- The bounded table is the unbounded definition's: at every position the table has (k, s) exactly when round (k, s) has
 -- the position, for all k and s. By induction on k: the sets that value k begins with are those of the table before it.
 use Prim.Native.Nat.{ℕ, zero, suc, _<_}
-use mathlib.Core.Path.{_≡_, refl, sym, _∙_, subst}
+use mathlib.Core.Path.{_≡_, refl, sym, ap, _∙_, subst}
 use mathlib.Core.Logic.{_⊎_, inl, inr, _↔_, Iff·trans}
 use mathlib.Core.Bool.{Bool, not, _&&_}
 use lib.ListN.{length}
 use lib.Dec.{T, eqb→eq, eqb-refl, not-T, T-not}
+use Rattle.game.specs.Value.{fin, ever}
 use Rattle.game.specs.Arena.{Arena, Owner, controller, environment, WellFormed, size, ownerAt, Meant, Disturbance, disturbanceMove}
 use Rattle.game.specs.Rounds.{Positions, JoinsAs, Joins, PlacedBy, JoinsIn, level, Round, NeverPlaced}
-use Rattle.game.specs.Table.{Placement, unplaced, placed, Table, placementAt, isPlaced, hasValue, someMove, meantFrom, place, readyAs, ready, begins, tableAfter, tableBefore, table}
+use Rattle.game.specs.Table.{Placement, unplaced, placed, Table, placementAt, isPlaced, hasValue, someMove, meantFrom, place, readyAs, ready, begins, tableAfter, tableBefore, table, roundValue, roundStep}
 use Rattle.game.specs.MoveTests.{passes-or-fails, some-meant, some-disturbance}
-use Rattle.game.specs.PlacementLaws.{is-placed, is-not-placed, placed-or-not}
+use Rattle.game.specs.ValueLaws.{fin-injective}
+use Rattle.game.specs.PlacementLaws.{is-placed, is-not-placed, placed-or-not, value-of-placed, step-of-placed, value-of-unplaced, step-of-unplaced, placed-of-value, unplaced-of-value}
 use Rattle.game.specs.TableLaws.{Takes, extends-placed, place-extends, place-takes, place-leaves}
 use Rattle.game.specs.RoundTables.{RoundTakes, after-length, before-length, before-all, before-from, taken-is-placed}
 use Rattle.game.specs.Stable.{after-before, table-has-the-taken}
@@ -52,7 +54,7 @@ joins-map-as environment a P Q f v some = (some .0, some .1, f (some .0) (some .
 pub joins-map : (a : Arena) (P Q : Positions) → ((w : ℕ) → P w → Q w) → (v : ℕ) → Joins a P v → Joins a Q v
 joins-map a P Q f v j = (j .0, joins-map-as (ownerAt a v) a P Q f v (j .1))
 
--- what a round leaves placed, and whom it takes, where P is what was placed before it and C the condition to join
+-- what a round leaves placed, and which positions it takes, where P is what was placed before it and C the condition to join
 module _ (test : ℕ → Bool) (k s : ℕ) (t : Table) (P C : Positions)
     (p : (v : ℕ) → P v ↔ PlacedIn t v) (c : (v : ℕ) → C v ↔ ((v < length t) × T (test v))) where
   round-places : (v : ℕ) → (P v ⊎ C v) ↔ PlacedIn (place test (placed k s) 0 t) v
@@ -180,3 +182,21 @@ module _ (a : Arena) (wf : WellFormed a) where
       look : NeverPlaced a v → (x : Placement) → placementAt (table a) v ≡ x → placementAt (table a) v ≡ unplaced
       look never unplaced e = e
       look never (placed k s) e = absurd (never k s (table-is-the-rounds k s v .1 e))
+
+  -- the rows of values and steps that the table gives are those of the rounds
+  pub rows-are-the-rounds : (k s v : ℕ) → Round a k s v ↔ ((roundValue a v ≡ fin k) × (roundStep a v ≡ fin s))
+  unfolding roundValue roundStep
+  rows-are-the-rounds k s v = (
+    λ r. let e = table-is-the-rounds k s v .0 r in (value-of-placed e, step-of-placed e),
+    λ e.
+        let p = placed-of-value (placementAt (table a) v) k (e .0) in
+        let same = fin-injective (p .0) s (sym (step-of-placed (p .1)) ∙ e .1) in
+        table-is-the-rounds k s v .1 (p .1 ∙ ap (placed k) same),
+  )
+
+  pub rows-have-the-never-placed : (v : ℕ) → NeverPlaced a v ↔ ((roundValue a v ≡ ever) × (roundStep a v ≡ ever))
+  unfolding roundValue roundStep
+  rows-have-the-never-placed v = (
+    λ never. let e = table-has-the-never-placed v .0 never in (value-of-unplaced e, step-of-unplaced e),
+    λ e. table-has-the-never-placed v .1 (unplaced-of-value (placementAt (table a) v) (e .0)),
+  )

@@ -1,5 +1,5 @@
 -- What one round does to a table: the positions that are not placed and pass its test are placed, and nothing else
--- changes: lengths and placements stay. A round that takes nobody leaves the table as it is, and any other leaves fewer
+-- changes: lengths and placements stay. A round that takes no position leaves the table as it is, and any other leaves fewer
 -- positions not placed.
 use Prim.Native.Nat.{ℕ, zero, suc, _+_, _≤_, _<_}
 use native.Mathlib.Decide.{decLt}
@@ -105,7 +105,7 @@ module _ (test : ℕ → Bool) (p : Placement) where
       go v k s e (inl f) = f ∙ e
       go v k s e (inr h) = absurd (is-not-placed (h .free) (is-placed e))
 
-  -- a round that takes nobody changes nothing
+  -- a round that takes no position changes nothing
   pub place-none : (t : Table) → ((v : ℕ) → Takes test t v → ⊥) → place test p 0 t ≡ t
   place-none t none = ext-getD unplaced (place test p 0 t) t (place-length 0 t) (λ v h. go v (place-leaves t v))
     where
@@ -162,7 +162,7 @@ module _ (test : ℕ → Bool) (k s : ℕ) where
       go false (inl e) = inl (ap {B = Table} (λ r′. unplaced ∷ r′) e)
       go false (inr h) = inr (omega arith)
 
-  -- nobody was taken where nothing has changed
+  -- no position was taken where nothing has changed
   pub unchanged-takes-none : (t : Table) → place test (placed k s) 0 t ≡ t → (v : ℕ) → Takes test t v → ⊥
   unchanged-takes-none t e v h =
       is-not-placed (h .free) (is-placed (subst (λ (x : Table). placementAt x v ≡ placed k s) e (place-takes test (placed k s) t v h)))

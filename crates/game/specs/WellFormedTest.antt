@@ -2,15 +2,15 @@
 use Prim.Native.Nat.{ℕ, zero, suc, _<_}
 use native.Mathlib.Decide.{decLt}
 use native.Mathlib.Omega.{arith}
-use mathlib.Core.Path.{_≡_, refl, sym, subst}
+use mathlib.Core.Path.{_≡_, subst}
 use mathlib.Core.Logic.{_⊎_, inl, inr}
-use mathlib.Core.Bool.{Bool, true, false, _&&_, _||_, not}
-use mathlib.Core.List.{List, List·Memᴰ, Memᴰ·cast}
+use mathlib.Core.Bool.{Bool, _&&_, _||_, not}
+use mathlib.Core.List.{List·Memᴰ, Memᴰ·cast}
 use lib.Dec.{T, eqb, ltb, ltb→lt, T-not, not-T}
-use Rattle.game.specs.Arena.{Arena, Move, WellFormed, size, ownerAt, mayBeDisturbed, Meant, Disturbance, disturbanceMove}
+use Rattle.game.specs.Arena.{Arena, Move, WellFormed, size, ownerAt, mayBeDisturbed, Meant, disturbanceMove}
 use Rattle.game.specs.Table.{someMove, everyMove, meantFrom}
 use Rattle.game.specs.Summary.{someBelow}
-use Rattle.game.specs.MoveTests.{and-left, and-right, or-cases, or-left, or-right, passes-or-fails, some-found, every-found, meant-move}
+use Rattle.game.specs.MoveTests.{and-left, and-right, or-left, or-right, passes-or-fails, some-found, every-found, meant-move}
 
 unfoldable pub fits : Arena → Move → Bool
 fits a m = ltb (m .cost) 2 && (ltb (m .from) (size a) && (ltb (m .to) (size a) && (eqb (m .cost) 0 || mayBeDisturbed (ownerAt a (m .from)))))

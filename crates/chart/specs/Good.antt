@@ -1,0 +1,213 @@
+-- What an accepted text is, line by line: the facts that its examination found, from which its arena is well-formed and its
+-- bytes are those of the arena's text.
+use Prim.Native.Nat.{ℕ, zero, suc, _+_, _-_, _*_, _%_, _≤_, _<_}
+use native.Mathlib.Omega.{arith}
+use mathlib.Core.Path.{_≡_, refl, sym, ap, _∙_, subst}
+use mathlib.Core.Logic.{_⊎_, inl, inr, ⊎-elim}
+use mathlib.Core.Bool.{Bool, true, false, cond}
+use mathlib.Core.List.{List}
+use lib.ListN.{length}
+use lib.Dec.{ltb, leb, eqb}
+use borrow.Author.Tests.{ltb-true, ltb-false, leb-true, leb-false, eqb-true, eqb-false, le-leb, lt-leb}
+use Rattle.field.specs.declared.Field.{Field}
+use Rattle.field.specs.declared.Field.the-variants.{Number, Bad}
+use Rattle.chart.specs.Text.{letterAt, firstAt, secondAt, endAt, markAt, numberOf, isNumber, positionsOf, movesOf, fromAt, toAt}
+use Rattle.chart.specs.Examined.{numbered, formed, headerFormed, positionFormed, moveFormed, headerOf, judgedPosition, positionFinding, rises, ordered, judgedMove, moveFinding, lineFinding, orElse, firstOf, meantIn, missingAt, answer, afterHeader, linesAfter, examined}
+use Rattle.chart.specs.First.{first-clean}
+use Rattle.chart.specs.Header.{WithinLimits, header-accepts}
+use Rattle.chart.specs.declared.Chart.{Chart}
+use Rattle.chart.specs.declared.Refusal.{Refusal}
+use Rattle.chart.specs.declared.Refusal.the-variants.{Length, Form, Limits, Count, Sequence, Endpoint, Disturbed, Order, NoMeant}
+use Rattle.chart.specs.declared.Finding.{Finding}
+use Rattle.chart.specs.declared.Finding.the-variants.{Clean, Fault}
+use Rattle.chart.specs.declared.Examination.{Examination}
+use Rattle.chart.specs.declared.Examination.the-variants.{Accepted, Refused}
+
+-- a line of letter a or b, two numbers and a line feed
+pub record Formed (letter : ℕ) (first second : Field) (end a b : ℕ) : Type 0 where
+  pub allowed : (letter ≡ a) ⊎ (letter ≡ b)
+  pub first-number : first ≡ Number (numberOf first)
+  pub second-number : second ≡ Number (numberOf second)
+  pub ends : end ≡ 10
+
+pub record GoodPosition (text : List ℕ) (i : ℕ) : Type 0 where
+  pub form : Formed (letterAt text i) (firstAt text i) (markAt text i) (endAt text i) 79 76
+  pub in-order : fromAt text i ≡ i - 1
+  pub small : numberOf (markAt text i) ≤ 1
+
+pub record GoodMove (text : List ℕ) (n i : ℕ) : Type 0 where
+  pub form : Formed (letterAt text i) (firstAt text i) (secondAt text i) (endAt text i) 77 68
+  pub from-position : fromAt text i < n
+  pub to-position : toAt text i < n
+  pub owner : letterAt text i ≡ 68 → letterAt text (fromAt text i + 1) ≡ 76 → ⊥
+  pub above : n < i - 1 → rises text i ≡ true
+
+-- an accepted text, with the counts of its header
+pub record GoodChart (text : List ℕ) : Type 0 where
+  pub form : Formed (letterAt text 0) (firstAt text 0) (secondAt text 0) (endAt text 0) 72 72
+  pub limits : WithinLimits (headerFormed text) (length text) (positionsOf text) (movesOf text)
+  pub position : (i : ℕ) → 1 ≤ i → i ≤ positionsOf text → GoodPosition text i
+  pub move : (i : ℕ) → positionsOf text < i → i ≤ positionsOf text + movesOf text → GoodMove text (positionsOf text) i
+  pub meant : (v : ℕ) → v < positionsOf text → meantIn text (positionsOf text) (movesOf text) v ≡ true
+
+untrue : {A : Type 0} → false ≡ true → A
+untrue e = let z : _≡_ {A = ℕ} 0 1 = cc in absurd (omega arith)
+
+is-number : (f : Field) → isNumber f ≡ true → f ≡ Number (numberOf f)
+unfolding isNumber numberOf
+is-number (Number x) e = refl
+is-number Bad e = untrue e
+
+numbered-true : (f g : Field) (e : ℕ) → numbered f g e ≡ true → (isNumber f ≡ true) × (isNumber g ≡ true) × (e ≡ 10)
+unfolding numbered
+numbered-true f g e h = go (isNumber f) (isNumber g) (eqb e 10) refl refl refl
+  where
+    go : (p q r : Bool) → isNumber f ≡ p → isNumber g ≡ q → eqb e 10 ≡ r → (isNumber f ≡ true) × (isNumber g ≡ true) × (e ≡ 10)
+    go false q r u v w = untrue (simp u at h)
+    go true false r u v w = untrue (simp (u, v) at h)
+    go true true false u v w = untrue (simp (u, v, w) at h)
+    go true true true u v w = (u, v, eqb-true e 10 w)
+
+pub formed-true : (c : ℕ) (f g : Field) (e a b : ℕ) → formed c f g e a b ≡ true → Formed c f g e a b
+unfolding formed
+formed-true c f g e a b h = go (eqb c a) (eqb c b) refl refl
+  where
+    build : (c ≡ a) ⊎ (c ≡ b) → numbered f g e ≡ true → Formed c f g e a b
+    build w n =
+        let r = numbered-true f g e n in
+        record { allowed = w; first-number = is-number f (r .0); second-number = is-number g (r .1); ends = r .2 }
+
+    go : (p q : Bool) → eqb c a ≡ p → eqb c b ≡ q → Formed c f g e a b
+    go true q u v = build (inl (eqb-true c a u)) (simp u at h)
+    go false true u v = build (inr (eqb-true c b v)) (simp (u, v) at h)
+    go false false u v = untrue (simp (u, v) at h)
+
+faulty : {A : Type 0} (r : Refusal) → Fault r ≡ Clean → A
+faulty r e = let z : _≡_ {A = ℕ} 0 1 = cc in absurd (omega arith)
+
+position-form : (text : List ℕ) (i : ℕ) → positionFormed text i ≡ true → Formed (letterAt text i) (firstAt text i) (markAt text i) (endAt text i) 79 76
+unfolding positionFormed
+position-form text i h = formed-true (letterAt text i) (firstAt text i) (markAt text i) (endAt text i) 79 76 h
+
+move-form : (text : List ℕ) (i : ℕ) → moveFormed text i ≡ true → Formed (letterAt text i) (firstAt text i) (secondAt text i) (endAt text i) 77 68
+unfolding moveFormed
+move-form text i h = formed-true (letterAt text i) (firstAt text i) (secondAt text i) (endAt text i) 77 68 h
+
+header-form : (text : List ℕ) → headerFormed text ≡ true → Formed (letterAt text 0) (firstAt text 0) (secondAt text 0) (endAt text 0) 72 72
+unfolding headerFormed
+header-form text h = formed-true (letterAt text 0) (firstAt text 0) (secondAt text 0) (endAt text 0) 72 72 h
+
+pub position-clean : (text : List ℕ) (i : ℕ) → positionFinding text i ≡ Clean → GoodPosition text i
+unfolding positionFinding judgedPosition
+position-clean text i h = go (positionFormed text i) (eqb (fromAt text i) (i - 1)) (ltb 1 (numberOf (markAt text i))) refl refl refl
+  where
+    go : (p q r : Bool) → positionFormed text i ≡ p → eqb (fromAt text i) (i - 1) ≡ q → ltb 1 (numberOf (markAt text i)) ≡ r → GoodPosition text i
+    go false q r u v w = faulty _ (simp u at h)
+    go true false r u v w = faulty _ (simp (u, v) at h)
+    go true true true u v w = faulty _ (simp (u, v, w) at h)
+    go true true false u v w = record {
+      form = position-form text i u;
+      in-order = eqb-true (fromAt text i) (i - 1) v;
+      small = ltb-false 1 (numberOf (markAt text i)) w;
+    }
+
+ordered-clean : (n i : ℕ) (rising : Bool) → ordered n i rising ≡ Clean → n < i - 1 → rising ≡ true
+unfolding ordered
+ordered-clean n i true h l = refl
+ordered-clean n i false h l = faulty _ (simp (lt-leb (i - 1) n l) at h)
+
+module _ (ok : Bool) (n i letter from to owner : ℕ) (rising : Bool) where
+  -- what a clean move line is, of the parts that were judged
+  pub record CleanMove : Type 0 where
+    pub form : ok ≡ true
+    pub from-position : from < n
+    pub to-position : to < n
+    pub owned : letter ≡ 68 → owner ≡ 76 → ⊥
+    pub above : n < i - 1 → rising ≡ true
+
+  judged-clean : judgedMove ok n i letter from to owner rising ≡ Clean → CleanMove
+  unfolding judgedMove
+  judged-clean h = go ok (leb n from) (leb n to) (eqb letter 68) (eqb owner 76) refl refl refl refl refl
+    where
+      go : (p q r s t : Bool) → ok ≡ p → leb n from ≡ q → leb n to ≡ r → eqb letter 68 ≡ s → eqb owner 76 ≡ t → CleanMove
+      go false q r s t a b c d e = faulty _ (simp a at h)
+      go true true r s t a b c d e = faulty _ (simp (a, b) at h)
+      go true false true s t a b c d e = faulty _ (simp (a, b, c) at h)
+      go true false false true true a b c d e = faulty _ (simp (a, b, c, d, e) at h)
+      go true false false true false a b c d e = record {
+        form = a;
+        from-position = leb-false n from b;
+        to-position = leb-false n to c;
+        owned = λ _ q. eqb-false owner 76 e q;
+        above = ordered-clean n i rising (simp (a, b, c, d, e) at h);
+      }
+      go true false false false t a b c d e = record {
+        form = a;
+        from-position = leb-false n from b;
+        to-position = leb-false n to c;
+        owned = λ q _. eqb-false letter 68 d q;
+        above = ordered-clean n i rising (simp (a, b, c, d) at h);
+      }
+
+pub move-clean : (text : List ℕ) (n i : ℕ) → moveFinding text n i ≡ Clean → GoodMove text n i
+unfolding moveFinding
+move-clean text n i h =
+    let w = judged-clean (moveFormed text i) n i (letterAt text i) (fromAt text i) (toAt text i) (letterAt text (fromAt text i + 1)) (rises text i) h in
+    record { form = move-form text i (w .form); from-position = w .from-position; to-position = w .to-position; owner = w .owned; above = w .above }
+
+-- a line after the header is a position or a move
+line-position : (text : List ℕ) (n i : ℕ) → i ≤ n → lineFinding text n i ≡ positionFinding text i
+unfolding lineFinding
+line-position text n i h = simp (le-leb i n h)
+
+line-move : (text : List ℕ) (n i : ℕ) → n < i → lineFinding text n i ≡ moveFinding text n i
+unfolding lineFinding
+line-move text n i h = simp (lt-leb i n h)
+
+answer-accepts : (chart got : Chart) (d e : Finding) → answer chart (orElse d e) ≡ Accepted got → (d ≡ Clean) × (e ≡ Clean) × (got ≡ chart)
+unfolding answer orElse
+answer-accepts chart got Clean Clean h = (refl, refl, cc)
+answer-accepts chart got Clean (Fault r) h = let z : _≡_ {A = ℕ} 0 1 = cc in absurd (omega arith)
+answer-accepts chart got (Fault r) e h = let z : _≡_ {A = ℕ} 0 1 = cc in absurd (omega arith)
+
+missing-clean : (text : List ℕ) (n m v : ℕ) → missingAt text n m v ≡ Clean → meantIn text n m v ≡ true
+unfolding missingAt
+missing-clean text n m v h = go (meantIn text n m v) refl
+  where
+    go : (b : Bool) → meantIn text n m v ≡ b → meantIn text n m v ≡ true
+    go true e = e
+    go false e = faulty _ (simp e at h)
+
+-- the lines after an accepted header
+lines-accept : (text : List ℕ) (e : Examination) (chart : Chart) → headerOf text ≡ e → linesAfter text e ≡ Accepted chart →
+    GoodChart text × (chart ≡ record { positions = positionsOf text; moves = movesOf text })
+unfolding linesAfter afterHeader
+lines-accept text (Refused r) chart p h = let z : _≡_ {A = ℕ} 0 1 = cc in absurd (omega arith)
+lines-accept text (Accepted got) chart p h =
+    let w = header-accepts text got p in
+    let n = positionsOf text in
+    let m = movesOf text in
+    let counts : Chart = record { positions = n; moves = m } in
+    let r = answer-accepts counts chart (firstOf (lineFinding text n) (n + m) 1) (firstOf (missingAt text n m) n 0)
+    (subst (λ (k : Chart). linesAfter text (Accepted k) ≡ Accepted chart) (w .1) h) in
+    let clean = first-clean (lineFinding text n) (n + m) 1 (r .0) in (
+      record {
+        form = header-form text (w .0 .form);
+        limits = w .0;
+        position = λ i l k. position-clean text i (sym (line-position text n i k) ∙ clean i l (omega arith));
+        move = λ i l k. move-clean text n i (sym (line-move text n i l) ∙ clean i (omega arith) (omega arith));
+        meant = λ v k. missing-clean text n m v (first-clean (missingAt text n m) n 0 (r .1) v (omega arith) (omega arith));
+      },
+      r .2,
+    )
+
+pub accepted-good : (text : List ℕ) (chart : Chart) → examined text ≡ Accepted chart → GoodChart text × (chart ≡ record { positions = positionsOf text; moves = movesOf text })
+unfolding examined
+accepted-good text chart h = go (eqb (length text) 0) (ltb 55308 (length text)) (eqb (length text % 12) 0) refl refl refl
+  where
+    go : (p q r : Bool) → eqb (length text) 0 ≡ p → ltb 55308 (length text) ≡ q → eqb (length text % 12) 0 ≡ r →
+        GoodChart text × (chart ≡ record { positions = positionsOf text; moves = movesOf text })
+    go true q r a b c = let w = simp a at h in let z : _≡_ {A = ℕ} 0 1 = cc in absurd (omega arith)
+    go false true r a b c = let w = simp (a, b) at h in let z : _≡_ {A = ℕ} 0 1 = cc in absurd (omega arith)
+    go false false false a b c = let w = simp (a, b, c) at h in let z : _≡_ {A = ℕ} 0 1 = cc in absurd (omega arith)
+    go false false true a b c = lines-accept text (headerOf text) chart refl (simp (a, b, c) at h)

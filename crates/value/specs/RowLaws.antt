@@ -1,0 +1,93 @@
+-- Rows that a loop fills: from the front, one number a turn, or at the place that each move names. Each has a law for
+-- the start and for a turn.
+use Prim.Native.Nat.{ℕ, zero, suc, _+_, _≤_, _<_}
+use native.Mathlib.Nat.{le-refl}
+use native.Mathlib.Numerals.{add-one}
+use native.Mathlib.Omega.{arith}
+use native.Mathlib.Decide.{ℕ-discrete}
+use mathlib.Core.Path.{_≡_, refl, sym, ap, subst, _∙_}
+use mathlib.Core.Bool.{Bool, true, false, cond, _&&_, _||_, or-false, or-true}
+use mathlib.Core.List.{List}
+use lib.ListN.{length, getD, set, length-set}
+use lib.Seq.{getD-set-same, getD-set-other}
+use lib.Dec.{eqb}
+use borrow.Author.Count.{below-more}
+use borrow.Author.Tests.{eq-eqb, ne-eqb}
+use Rattle.game.specs.Summary.{someBelow}
+use Rattle.chart.specs.Rows.{RowIs}
+use Rattle.chart.specs.Loaded.{Filled}
+use Rattle.chart.specs.Filled.{filled-more}
+
+-- the number at j
+abbrev pub numberAt : List ℕ → ℕ → ℕ
+numberAt row j = getD row j 0
+
+-- what lies past the first n numbers stays
+abbrev pub Stays : ℕ → List ℕ → List ℕ → Type 0
+Stays n before after = (j : ℕ) → n ≤ j → getD after j 0 ≡ getD before j 0
+
+-- the row with x at v, if the test passes
+abbrev pub setIf : Bool → ℕ → ℕ → List ℕ → List ℕ
+setIf true v x row = set row v x
+setIf false v x row = row
+
+pub length-setIf : (b : Bool) (v x : ℕ) (row : List ℕ) → length (setIf b v x row) ≡ length row
+length-setIf true v x row = length-set row v x
+length-setIf false v x row = refl
+
+pub setIf-stays : (b : Bool) (n v x : ℕ) (row : List ℕ) → v < n → Stays n row (setIf b v x row)
+setIf-stays true n v x row l j k = getD-set-other row v j x 0 (λ e. omega arith)
+setIf-stays false n v x row l j k = refl
+
+-- a turn: the number is stored, or was right already
+pub filled-next : {i : ℕ} {f : ℕ → ℕ} {before after : List ℕ} → Filled before after i f → (b : Bool) (x : ℕ) → i < length after
+    → f i ≡ cond b x (getD before i 0) → Filled before (setIf b i x after) (i + 1) f
+filled-next {i} {f} {before} {after} h true x l e = filled-more before after i x f h (subst (λ (k : ℕ). i < k) (h .same-length) l) (sym e)
+filled-next {i} {f} {before} {after} h false x l e =
+    record {
+      row = below-more (λ (j : ℕ). getD after j 0 ≡ f j) i (h .row) (h .rest i (le-refl i) ∙ sym e);
+      rest = λ j m. h .rest j (omega arith);
+      same-length = h .same-length;
+    }
+
+-- Of the first i items, some with the property q is at v. (`at` says where each item is: the position that a move leaves.)
+unfoldable pub found : (ℕ → ℕ) → (ℕ → Bool) → ℕ → ℕ → Bool
+found at q i v = someBelow (λ j. eqb (at j) v && q j) i
+
+-- at each place below n the row has g of whether such an item was among the first i
+pub record Marked (n : ℕ) (at : ℕ → ℕ) (q : ℕ → Bool) (g : ℕ → Bool → ℕ) (i : ℕ) (row : List ℕ) : Type 0 where
+  pub marks : RowIs row n (λ v. g v (found at q i v))
+
+pub some-next : (p : ℕ → Bool) (i : ℕ) → someBelow p (i + 1) ≡ (someBelow p i || p i)
+unfolding someBelow
+some-next p i = rw add-one
+
+-- before the first item
+pub marked-none : {n : ℕ} {at : ℕ → ℕ} {q : ℕ → Bool} {g : ℕ → Bool → ℕ} {row : List ℕ} → RowIs row n (λ v. g v false) → Marked n at q g 0 row
+unfolding found someBelow
+marked-none h = record { marks = h }
+
+module _ {n : ℕ} {at : ℕ → ℕ} {q : ℕ → Bool} {g : ℕ → Bool → ℕ} {i : ℕ} {row : List ℕ} (h : Marked n at q g i row) where
+  marked-hit : n ≤ length row → at i < n → q i ≡ true → Marked n at q g (i + 1) (set row (at i) (g (at i) true))
+  unfolding found
+  marked-hit l inside e = record { marks = λ v m. go v m (ℕ-discrete v (at i)) }
+    where
+      go : (v : ℕ) → v < n → Dec (v ≡ at i) → getD (set row (at i) (g (at i) true)) v 0 ≡ g v (found at q (i + 1) v)
+      go v m (yes z) = rw (z, some-next, eq-eqb (at i) (at i) refl, e, or-true) (getD-set-same row (at i) (g (at i) true) 0 (omega arith))
+      go v m (no z) = rw (some-next, ne-eqb (at i) v (λ e. z (sym e)), or-false) (getD-set-other row (at i) v (g (at i) true) 0 z ∙ h .marks v m)
+
+  marked-miss : q i ≡ false → Marked n at q g (i + 1) row
+  unfolding found
+  marked-miss e = record { marks = λ v m. go v m (ℕ-discrete v (at i)) }
+    where
+      go : (v : ℕ) → v < n → Dec (v ≡ at i) → getD row v 0 ≡ g v (found at q (i + 1) v)
+      go v m (yes z) = rw (some-next, eq-eqb (at i) v (sym z), e, or-false) (h .marks v m)
+      go v m (no z) = rw (some-next, ne-eqb (at i) v (λ e. z (sym e)), or-false) (h .marks v m)
+
+  -- a turn: an item with the property marks its place, any other changes nothing
+  pub marked-next : n ≤ length row → (q i ≡ true → at i < n) → Marked n at q g (i + 1) (setIf (q i) (at i) (g (at i) true) row)
+  marked-next l inside = go (q i) refl
+    where
+      go : (b : Bool) → q i ≡ b → Marked n at q g (i + 1) (setIf b (at i) (g (at i) true) row)
+      go true e = marked-hit l (inside e) e
+      go false e = marked-miss e

@@ -1,0 +1,4 @@
+pub mod choose;
+pub mod solve;
+pub mod summary;
+pub mod valuing;
