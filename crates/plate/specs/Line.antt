@@ -9,7 +9,7 @@ use Rattle.field.specs.Laws.{number-text-length}
 use Rattle.game.specs.Value.{Value, valueOf}
 use Rattle.plate.specs.Text.{entryText, dashText, everText, withEntry, lineText, valueEntry, dashEntry, headerLine, positionLine, positionLines, plateText}
 use Rattle.plate.specs.Written.{Written, written-none, written-sets, written-part}
-use Rattle.plate.specs.declared.Header.{Header}
+use Rattle.value.specs.declared.summary.Summary.{Summary}
 use Rattle.plate.specs.declared.Entry.{Entry}
 use Rattle.plate.specs.declared.Entry.the-variants.{Number, Dash, Ever, Bad}
 
@@ -58,7 +58,7 @@ lines-more value choice step v base text part w h e =
     (written-part (positionLines value choice step v) (positionLine v (value v) (choice v) (step v)) (v * 22) 22 (suc v * 22) base text w
     (position-line-length v (value v) (choice v) (step v)) (omega arith) (omega arith) part e)
 
-pub header-line-length : (n : ℕ) (h : Header) → length (headerLine n h) ≡ 22
+pub header-line-length : (n : ℕ) (h : Summary) → length (headerLine n h) ≡ 22
 unfolding headerLine
 header-line-length n h = line-length 80 (Number n) (Number (h .rounds)) (dashEntry (valueOf (h .highest))) (Number (h .evers))
 
@@ -69,7 +69,7 @@ lines-length value choice step (suc v) =
     simp (length-append, lines-length value choice step v, position-line-length) (omega arith)
 
 -- the first line, and the part behind it
-pub plate-written : (n : ℕ) (h : Header) (value choice step : ℕ → Value) (highest : Entry) (base text part : List ℕ) → (n + 1) * 22 ≤ length base → highest ≡ dashEntry (valueOf (h .highest)) →
+pub plate-written : (n : ℕ) (h : Summary) (value choice step : ℕ → Value) (highest : Entry) (base text part : List ℕ) → (n + 1) * 22 ≤ length base → highest ≡ dashEntry (valueOf (h .highest)) →
     text ≡ lineText 80 (Number n) (Number (h .rounds)) highest (Number (h .evers)) ++ drop 22 base →
     part ≡ positionLines value choice step n ++ drop (n * 22) (take (length text - 22) (drop 22 text)) →
     take 22 text ++ (part ++ drop (length text - 22) (drop 22 text)) ≡ plateText n h value choice step ++ drop ((n + 1) * 22) base

@@ -12,7 +12,7 @@ use Rattle.field.specs.declared.Field.the-variants.{Number as Digits, Bad as Wr
 use Rattle.game.specs.Value.{Value, fin, ever, numberOf, valueOf}
 use Rattle.plate.specs.declared.Entry.{Entry}
 use Rattle.plate.specs.declared.Entry.the-variants.{Number, Dash, Ever, Bad}
-use Rattle.plate.specs.declared.Header.{Header}
+use Rattle.value.specs.declared.summary.Summary.{Summary}
 
 -- "`ever` and `-` are right-justified too"
 unfoldable pub dashText : List ℕ
@@ -68,7 +68,7 @@ dashEntry (fin k) = Number k
 dashEntry ever = Dash
 
 -- "First `P`, n, rounds .., the highest finite value (`-` if none), the count of "ever" positions"
-unfoldable pub headerLine : ℕ → Header → List ℕ
+unfoldable pub headerLine : ℕ → Summary → List ℕ
 headerLine n h = lineText 80 (Number n) (Number (h .rounds)) (dashEntry (valueOf (h .highest))) (Number (h .evers))
 
 -- "`V`, position, value, choice, step"
@@ -81,9 +81,5 @@ positionLines value choice step zero = []
 positionLines value choice step (suc v) = positionLines value choice step v ++ positionLine v (value v) (choice v) (step v)
 
 -- the plate of n positions
-unfoldable pub plateText : ℕ → Header → (value choice step : ℕ → Value) → List ℕ
+unfoldable pub plateText : ℕ → Summary → (value choice step : ℕ → Value) → List ℕ
 plateText n h value choice step = headerLine n h ++ positionLines value choice step n
-
--- a row of 16-bit numbers as a column
-abbrev pub column : List ℕ → ℕ → Value
-column row v = valueOf (getD row v 0)

@@ -7,15 +7,15 @@ ghost use lib.ListN.{length, drop};
 ghost use lib.Seq.{sets};
 ghost use Rattle.field.specs.Text.{five};
 ghost use Rattle.game.specs.Value.{valueOf};
-ghost use Rattle.plate.specs.Text.{entryAt, withEntry, sameText, lineText, valueEntry, dashEntry, positionLine, positionLines, plateText, column};
+ghost use Rattle.value.specs.Summarize.{rowValue};
+ghost use Rattle.plate.specs.Text.{entryAt, withEntry, sameText, lineText, valueEntry, dashEntry, positionLine, positionLines, plateText};
 ghost use Rattle.plate.specs.Formed.{numberIs, numberBelow, dashOrBelow, everOrBelow, framed, headerGood, positionGood, firstBad, formOf};
 use field::Field;
+use value::solve::NONE;
+use value::summary::Summary;
 
 // The bytes of a line.
 pub const LINE: usize = 22;
-
-// The number of "ever" and of `-` in rows.
-pub const NONE: u16 = 65535;
 
 // What a field of a plate reads as.
 pub enum Entry {
@@ -23,13 +23,6 @@ pub enum Entry {
     Dash,
     Ever,
     Bad,
-}
-
-// The first line's numbers after n.
-pub struct Header {
-    pub rounds: u16,
-    pub highest: u16,
-    pub evers: u16,
 }
 
 // What examining a plate finds: the form, or the lowest line that is not of it.
@@ -42,7 +35,7 @@ pub enum Form {
 // and the count within its field.
 pub fn write_rows(
     n: usize,
-    header: Header,
+    header: Summary,
     values: &[u16],
     choices: &[u16],
     steps: &[u16],
@@ -50,7 +43,7 @@ pub fn write_rows(
 )
     requires { ⌜ (n ≤ 512) × (n ≤ length (now values)) × (n ≤ length (now choices)) × (n ≤ length (now steps)) ⌝ }
     requires { ⌜ (n + 1) * 22 ≤ length (now out) ⌝ }
-    ensures { λ _. ⌜ now (out .exit) ≡ plateText n header (column (now (values .entry))) (column (now (choices .entry))) (column (now (steps .entry))) ++ drop ((n + 1) * 22) (now (out .entry)) ⌝ }
+    ensures { λ _. ⌜ now (out .exit) ≡ plateText n header (rowValue (now (values .entry))) (rowValue (now (choices .entry))) (rowValue (now (steps .entry))) ++ drop ((n + 1) * 22) (now (out .entry)) ⌝ }
 {
     write_line(
         b'P',
@@ -68,7 +61,7 @@ pub fn write_rows(
 fn write_positions(n: usize, values: &[u16], choices: &[u16], steps: &[u16], lines: &mut [u8])
     requires { ⌜ (n ≤ 512) × (n ≤ length (now values)) × (n ≤ length (now choices)) × (n ≤ length (now steps)) ⌝ }
     requires { ⌜ n * 22 ≤ length (now lines) ⌝ }
-    ensures { λ _. ⌜ now (lines .exit) ≡ positionLines (column (now (values .entry))) (column (now (choices .entry))) (column (now (steps .entry))) n ++ drop (n * 22) (now (lines .entry)) ⌝ }
+    ensures { λ _. ⌜ now (lines .exit) ≡ positionLines (rowValue (now (values .entry))) (rowValue (now (choices .entry))) (rowValue (now (steps .entry))) n ++ drop (n * 22) (now (lines .entry)) ⌝ }
 {
     let mut v = 0;
     while v < n {

@@ -5,7 +5,8 @@ use Rattle.plate.specs.Line.{lines-more}
 use lib.ListN.{length, drop, length-take, length-drop}
 use mathlib.Core.Path.{_≡_, subst}
 use Rattle.plate.specs.Written.{Written, written-none, written-length}
-use Rattle.plate.specs.Text.{positionLines, column}
+use Rattle.value.specs.Summarize.{rowValue}
+use Rattle.plate.specs.Text.{positionLines}
 use Prim.Native.Nat.{_*_}
 use Prim.Native.Nat.{ℕ, _-_, _≤_}
 use native.Mathlib.Omega.{arith}
@@ -13,7 +14,7 @@ use Rattle.plate.proofs.write_positions.Statement.{statement}
 use Rattle.plate.proofs.write_positions.Tie as tie
 
 abbrev Inv-loop : tie.InvT-loop
-Inv-loop n values choices steps lines₀ v₀ lines v = (v ≤ n) × (length lines ≡ length lines₀) × Written (positionLines (column values) (column choices) (column steps) v) (v * 22) lines₀ lines
+Inv-loop n values choices steps lines₀ v₀ lines v = (v ≤ n) × (length lines ≡ length lines₀) × Written (positionLines (rowValue values) (rowValue choices) (rowValue steps) v) (v * 22) lines₀ lines
 
 abbrev μ-loop : tie.MeasureT-loop
 μ-loop n values choices steps lines₀ v₀ lines v = n - v
@@ -66,7 +67,7 @@ loop-again c =
     let turn = c .before .before in
     let head = turn .before .before .before .before .before .before in
     let a = head .before .before .before .before .before .args in
-    let more = lines-more (column (a .values .now)) (column (a .choices .now)) (column (a .steps .now)) (head .loop .v) (a .lines .now) (head .loop .lines) _ (head .loop .inv .2) (omega arith) (turn .write-position .ensures) in
+    let more = lines-more (rowValue (a .values .now)) (rowValue (a .choices .now)) (rowValue (a .steps .now)) (head .loop .v) (a .lines .now) (head .loop .lines) _ (head .loop .inv .2) (omega arith) (turn .write-position .ensures) in
     (omega arith, written-length _ _ (a .lines .now) _ more (omega arith), more)
 
 same-length : tie.Need-same-length Inv-loop μ-loop
@@ -75,7 +76,7 @@ same-length c = omega arith
 returns : tie.Need-returns Inv-loop μ-loop
 returns c =
     let a = c .before .before .before .before .before .before .args in
-    let lines = positionLines (column (a .values .now)) (column (a .choices .now)) (column (a .steps .now)) in
+    let lines = positionLines (rowValue (a .values .now)) (rowValue (a .choices .now)) (rowValue (a .steps .now)) in
     let done : c .before .loop .v ≡ a .n = omega arith in
     subst (λ (k : ℕ). c .before .loop .lines ≡ lines k ++ drop (k * 22) (a .lines .now)) done (c .before .loop .inv .2 .bytes)
 

@@ -1,6 +1,6 @@
 -- `plate::write_rows` meets its contract: the first line is written, and then the part behind it (`plate-written`).
 use Rattle.plate.specs.Line.{plate-written}
-use Rattle.plate.specs.Text.{column}
+use Rattle.value.specs.Summarize.{rowValue}
 use native.Mathlib.Omega.{arith}
 use borrow.Author.Needs.{needs}
 use Rattle.plate.proofs.write_rows.Statement.{statement}
@@ -42,7 +42,7 @@ returns c =
     let first = positions .before .before .before .before in
     let highest = first .before .before .before in
     let a = highest .before .before .before .before .before .before .args in
-    plate-written (a .n) (a .header) (column (a .values .now)) (column (a .choices .now)) (column (a .steps .now)) _ (a .out .now) _ _ (omega (arith, highest)) (highest .dash-entry .ensures) (first .write-line .ensures) (positions .write-positions .ensures)
+    plate-written (a .n) (a .header) (rowValue (a .values .now)) (rowValue (a .choices .now)) (rowValue (a .steps .now)) _ (a .out .now) _ _ (omega (arith, highest)) (highest .dash-entry .ensures) (first .write-line .ensures) (positions .write-positions .ensures)
 
 pub write-rows-spec : {M : Type 1} → statement M
 write-rows-spec =
