@@ -4,3 +4,4 @@ pub mod Line
 pub mod Form
 pub mod Formed
 pub mod FirstBad
+pub mod Exact
