@@ -5,3 +5,5 @@ pub mod Form
 pub mod Formed
 pub mod FirstBad
 pub mod Exact
+pub mod Read
+pub mod ReadLaws

@@ -10,6 +10,7 @@ ghost use Rattle.game.specs.Value.{valueOf};
 ghost use Rattle.value.specs.Summarize.{rowValue};
 ghost use Rattle.plate.specs.Text.{entryAt, withEntry, sameText, lineText, valueEntry, dashEntry, positionLine, positionLines, plateText};
 ghost use Rattle.plate.specs.Formed.{numberIs, numberBelow, dashOrBelow, everOrBelow, framed, headerGood, positionGood, firstBad, formOf};
+ghost use Rattle.plate.specs.Read.{entryNumber, RowsRead};
 use field::Field;
 use value::solve::NONE;
 use value::summary::Summary;
@@ -279,6 +280,46 @@ fn ever_or_below(plate: &[u8], at: usize, bound: usize) -> bool
         Entry::Dash => false,
         Entry::Ever => true,
         Entry::Bad => false,
+    }
+}
+
+// A plate of the form into the first line's numbers and three rows; what lies past the last position's number stays.
+pub fn read_rows(
+    n: usize,
+    plate: &[u8],
+    values: &mut [u16],
+    choices: &mut [u16],
+    steps: &mut [u16],
+) -> Summary
+    requires { ⌜ (n ≤ 512) × (formOf n (now plate) ≡ Form.Good) ⌝ }
+    requires { ⌜ (n ≤ length (now values)) × (n ≤ length (now choices)) × (n ≤ length (now steps)) ⌝ }
+    ensures { λ r. ⌜ RowsRead n (now (plate .entry)) r (now (values .entry)) (now (values .exit)) (now (choices .entry)) (now (choices .exit)) (now (steps .entry)) (now (steps .exit)) ⌝ }
+{
+    let mut v = 0;
+    while v < n {
+        let at = (v + 1) * LINE;
+        values[v] = number_at(plate, at + 6);
+        choices[v] = number_at(plate, at + 11);
+        steps[v] = number_at(plate, at + 16);
+        v += 1;
+    }
+    Summary {
+        rounds: number_at(plate, 6),
+        highest: number_at(plate, 11),
+        evers: number_at(plate, 16),
+    }
+}
+
+// The number of an entry in a row. The bounds keep its bytes within the text, and it within 16 bits.
+fn number_at(plate: &[u8], at: usize) -> u16
+    requires { ⌜ (at + 5 ≤ length (now plate)) × (entryNumber (entryAt (now plate) at) ≤ 65535) ⌝ }
+    ensures { λ r. ⌜ r ≡ entryNumber (entryAt (now (plate .entry)) at) ⌝ }
+{
+    match read_entry(plate, at) {
+        Entry::Number(x) => x as u16,
+        Entry::Dash => NONE,
+        Entry::Ever => NONE,
+        Entry::Bad => NONE,
     }
 }
 
