@@ -1,12 +1,11 @@
 -- The columns of one line: what stands in them says what the line's bytes are, and the bytes of a line say what stands in them.
-use Prim.Native.Nat.{ℕ, suc, _+_, _*_, _≤_, _<_}
+use Prim.Native.Nat.{ℕ, suc, _+_, _≤_}
 use native.Mathlib.Omega.{arith}
-use native.Mathlib.Nat.{add-zero}
 use native.Mathlib.Numerals.{add-one}
 use mathlib.Core.Path.{_≡_, refl, sym, ap, _∙_, subst}
 use mathlib.Core.List.{List, [], _∷_, _++_, append-assoc}
 use lib.ListN.{length, getD, take, drop, length-append}
-use lib.Seq.{take-at, drop-cons, getD-append-seam, getD-at}
+use lib.Seq.{take-at, drop-cons, getD-at}
 use Rattle.plate.specs.Text.{entryText, entryAt, lineText}
 use Rattle.plate.specs.Line.{entry-text-length, line-length}
 use Rattle.plate.specs.Entries.{Writable, entry-stands, entry-behind}

@@ -6,21 +6,20 @@ use native.Mathlib.Omega.{arith}
 use native.Mathlib.Decide.{ℕ-discrete}
 use native.Mathlib.Numerals.{add-one}
 use mathlib.Core.Path.{_≡_, refl, sym, ap, ap₂, _∙_, subst}
-use mathlib.Core.List.{List, [], _∷_, _++_, append-assoc, append-nil}
+use mathlib.Core.List.{List, [], _++_, append-assoc, append-nil}
 use lib.ListN.{length, take, drop, length-append}
 use lib.Seq.{take-add, take-all}
 use Rattle.game.specs.Value.{Value, numberOf, valueOf}
 use Rattle.game.specs.ValueLaws.{number-of-value, value-of-number}
 use Rattle.value.specs.declared.summary.Summary.{Summary}
-use Rattle.plate.specs.Text.{lineText, valueEntry, dashEntry, headerLine, positionLine, positionLines, plateText}
+use Rattle.plate.specs.Text.{valueEntry, dashEntry, headerLine, positionLine, positionLines, plateText}
 use Rattle.plate.specs.Line.{header-line-length, lines-length}
-use Rattle.plate.specs.Form.{letterAt, firstAt, secondAt, thirdAt, fourthAt, endAt, NumberBelow, DashOrBelow, EverOrBelow, HeaderForm, PositionForm, LineForm, OfForm}
-use Rattle.plate.specs.Read.{entryValue, entryNumber, headerIn, valueIn, choiceIn, stepIn}
+use Rattle.plate.specs.Form.{letterAt, firstAt, secondAt, thirdAt, fourthAt, endAt, NumberBelow, DashOrBelow, EverOrBelow, LineForm, OfForm}
+use Rattle.plate.specs.Read.{entryValue, headerIn, valueIn, choiceIn, stepIn}
 use Rattle.plate.specs.ReadLaws.{header-line-form, position-line-form}
 use Rattle.plate.specs.Range.{Below, InRange}
 use Rattle.plate.specs.RangeLaws.{number-back, dash-back, ever-back, dash-value, ever-value, number-formed, dash-formed, ever-formed, number-writable, dash-writable, ever-writable, below-fits}
 use Rattle.plate.specs.Columns.{Columns, AllWritable, line-stands, line-reads}
-use Rattle.plate.specs.declared.Entry.{Entry}
 use Rattle.plate.specs.declared.Entry.the-variants.{Number}
 
 -- What is read is in range

@@ -2,17 +2,17 @@
 -- out and read, come back.
 use Prim.Native.Nat.{ℕ, zero, suc, _≤_, _<_}
 use native.Mathlib.Omega.{arith}
-use mathlib.Core.Path.{_≡_, refl, sym, ap, ap₂, _∙_, subst}
+use mathlib.Core.Path.{_≡_, refl, ap, _∙_}
 use mathlib.Core.List.{List, _++_}
 use Rattle.game.specs.Value.{Value, numberOf, valueOf}
-use Rattle.game.specs.ValueLaws.{Fits, number-of-value, value-of-number}
+use Rattle.game.specs.ValueLaws.{Fits, value-of-number}
 use Rattle.chart.specs.Rows.{RowIs}
 use Rattle.value.specs.Summarize.{rowValue}
 use Rattle.value.specs.declared.summary.Summary.{Summary}
-use Rattle.plate.specs.Text.{headerLine, positionLine, positionLines, plateText}
+use Rattle.plate.specs.Text.{headerLine, positionLines, plateText}
 use Rattle.plate.specs.Form.{OfForm}
 use Rattle.plate.specs.Read.{headerIn, valueIn, choiceIn, stepIn, RowsRead}
-use Rattle.plate.specs.Range.{Below, InRange}
+use Rattle.plate.specs.Range.{InRange}
 use Rattle.plate.specs.RangeLaws.{below-fits}
 use Rattle.plate.specs.RoundTrip.{read-in-range, writing-undoes-reading, reading-undoes-writing}
 
