@@ -13,3 +13,5 @@ pub mod Accepted
 pub mod Refusals
 pub mod LineExact
 pub mod Exact
+pub mod Lines
+pub mod Faithful

@@ -78,7 +78,7 @@ formed-false c f g e a b h = go (eqb c a) (eqb c b) refl refl
 number-not-bad : (f : Field) (x : ℕ) → f ≡ Number x → f ≡ Bad → ⊥
 number-not-bad f x p q = let z : _≡_ {A = ℕ} 0 1 = cc in omega arith
 
-form-good : (text : List ℕ) (i a b : ℕ) → Allowed text i (letterAt text i) → Formed (letterAt text i) (firstAt text i) (secondAt text i) (endAt text i) a b → BadForm text i → ⊥
+pub form-good : (text : List ℕ) (i a b : ℕ) → Allowed text i (letterAt text i) → Formed (letterAt text i) (firstAt text i) (secondAt text i) (endAt text i) a b → BadForm text i → ⊥
 unfolding BadForm
 form-good text i a b allowed w bad =
     ⊎-elim (λ no. no allowed)
