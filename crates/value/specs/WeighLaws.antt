@@ -13,6 +13,7 @@ use borrow.Author.Tests.{eq-eqb, ne-eqb}
 use Rattle.chart.specs.Rows.{RowIs}
 use Rattle.value.specs.RowLaws.{setIf}
 use Rattle.value.specs.Solve.{bit}
+use Rattle.value.specs.PlaceLaws.{bit-le}
 use Rattle.value.specs.Weigh.{passing, CopyOf, Copied, CopiedMove, moveStays}
 
 -- one number more
@@ -26,6 +27,15 @@ passing-count q i = rw (passing-next q i, length-append (passing q i) (cond (q i
     go : (b : Bool) → length {A = ℕ} (cond b (i ∷ []) []) ≡ bit b
     go true = refl
     go false = refl
+
+pub passing-length : (q : ℕ → Bool) (i : ℕ) → length (passing q i) ≤ i
+unfolding passing
+passing-length q zero = omega arith
+passing-length q (suc i) =
+    let b = bit-le (q i) in
+    let h = passing-length q i in
+    let e = rw add-one at (passing-count q i) in
+    omega arith
 
 -- a copy with one place more
 copy-next : (q : ℕ → Bool) (i : ℕ) (row copy : List ℕ) → CopyOf q i row copy → length (passing q i) < length copy

@@ -6,12 +6,136 @@ ghost use lib.ListN.{length, getD};
 ghost use Rattle.game.specs.Summary.{someBelow};
 ghost use Rattle.value.specs.RowLaws.{Marked, numberAt, setIf};
 ghost use Rattle.value.specs.Solve.{AtMove, Within, bit};
+ghost use Rattle.value.specs.Weighing.{RestrictedSolved, RowsWeighed, WeighedIs};
 ghost use Rattle.value.specs.Weigh.{Copied, CopiedMove, isChosen, isLegal, moveStays};
 use crate::solve::NONE;
 use crate::solve::flag_none;
+use crate::solve::solve;
+use chart::Examination;
+use chart::Refusal;
+use chart::load;
+
+// What Weighing answers: that the worths are there, the chart's refusal, 10: a row shorter than the count of positions, or
+// 12: a choice that is not legal.
+pub enum Weighed {
+    Done,
+    Refused(Refusal),
+    Short,
+    Choice,
+}
+
+// Weighs the choices into a lent row. What lies past the last position's number stays, and on a refusal everything does.
+pub fn weigh_chart(text: &[u8], choices: &[u16], worths: &mut [u16]) -> Weighed
+    ensures { λ r. ⌜ WeighedIs (now (text .entry)) (now (choices .entry)) (now (worths .entry)) (now (worths .exit)) r ⌝ }
+{
+    let mut owners = [0u8; 512];
+    let mut marks = [0u8; 512];
+    let mut costs = [0u8; 4096];
+    let mut froms = [0u16; 4096];
+    let mut tos = [0u16; 4096];
+    match load(
+        text,
+        &mut owners,
+        &mut marks,
+        &mut costs,
+        &mut froms,
+        &mut tos,
+    ) {
+        Examination::Refused(r) => Weighed::Refused(r),
+        Examination::Accepted(chart) => {
+            let n = chart.positions;
+            let m = chart.moves;
+            if choices.len() < n {
+                return Weighed::Short;
+            }
+            if worths.len() < n {
+                return Weighed::Short;
+            }
+            if weigh_rows(n, m, &owners, &marks, &costs, &froms, &tos, choices, worths) {
+                return Weighed::Done;
+            }
+            Weighed::Choice
+        }
+    }
+}
+
+// Weighs decoded rows by the solver, over the moves that stay; or answers that a choice is not legal.
+pub fn weigh_rows(
+    n: usize,
+    m: usize,
+    owners: &[u8],
+    marks: &[u8],
+    costs: &[u8],
+    froms: &[u16],
+    tos: &[u16],
+    choices: &[u16],
+    worths: &mut [u16],
+) -> bool
+    requires { ⌜ Within n m (now costs) (now froms) (now tos) × (n ≤ 512) × (m ≤ 4096) × (n ≤ length (now owners)) × (n ≤ length (now marks)) × (n ≤ length (now choices)) × (n ≤ length (now worths)) ⌝ }
+    ensures { λ r. ⌜ RowsWeighed n m (now (owners .entry)) (now (marks .entry)) (now (costs .entry)) (now (froms .entry)) (now (tos .entry)) (now (choices .entry)) (now (worths .entry)) (now (worths .exit)) r ⌝ }
+{
+    let mut flags = [0u8; 512];
+    flag_chosen(n, m, costs, froms, tos, choices, &mut flags);
+    if !all_legal(n, owners, choices, &flags) {
+        return false;
+    }
+    solve_restricted(n, m, owners, marks, costs, froms, tos, choices, worths);
+    true
+}
+
+// Solves the moves that stay when the controller makes these choices.
+fn solve_restricted(
+    n: usize,
+    m: usize,
+    owners: &[u8],
+    marks: &[u8],
+    costs: &[u8],
+    froms: &[u16],
+    tos: &[u16],
+    choices: &[u16],
+    worths: &mut [u16],
+)
+    requires { ⌜ Within n m (now costs) (now froms) (now tos) × (n ≤ 512) × (m ≤ 4096) × (n ≤ length (now owners)) × (n ≤ length (now marks)) × (n ≤ length (now choices)) × (n ≤ length (now worths)) ⌝ }
+    ensures { λ _. ⌜ RestrictedSolved n m (now (owners .entry)) (now (marks .entry)) (now (costs .entry)) (now (froms .entry)) (now (tos .entry)) (now (choices .entry)) (now (worths .entry)) (now (worths .exit)) ⌝ }
+{
+    let mut steps = [0u16; 512];
+    let mut costskept = [0u8; 4096];
+    let mut fromskept = [0u16; 4096];
+    let mut toskept = [0u16; 4096];
+    let count = restrict(
+        n,
+        m,
+        owners,
+        costs,
+        froms,
+        tos,
+        choices,
+        &mut costskept,
+        &mut fromskept,
+        &mut toskept,
+    );
+    solve(
+        n,
+        count,
+        owners,
+        marks,
+        &costskept,
+        &fromskept,
+        &toskept,
+        worths,
+        &mut steps,
+    );
+}
 
 // Flags the position that the i-th move leaves, if that move is meant and its choice.
-fn flag_chosen_by(i: usize, costs: &[u8], froms: &[u16], tos: &[u16], choices: &[u16], flags: &mut [u8])
+fn flag_chosen_by(
+    i: usize,
+    costs: &[u8],
+    froms: &[u16],
+    tos: &[u16],
+    choices: &[u16],
+    flags: &mut [u8],
+)
     requires { ⌜ (i < length (now costs)) × (i < length (now froms)) × (i < length (now tos)) × (getD (now froms) i 0 < length (now choices)) × (getD (now froms) i 0 < length (now flags)) ⌝ }
     ensures { λ _. ⌜ now (flags .exit) ≡ setIf (isChosen (now (costs .entry)) (now (froms .entry)) (now (tos .entry)) (now (choices .entry)) i) (getD (now (froms .entry)) i 0) 1 (now (flags .entry)) ⌝ }
 {
@@ -25,7 +149,15 @@ fn flag_chosen_by(i: usize, costs: &[u8], froms: &[u16], tos: &[u16], choices: &
 }
 
 // Flags the positions whose choice is a meant target.
-fn flag_chosen(n: usize, m: usize, costs: &[u8], froms: &[u16], tos: &[u16], choices: &[u16], flags: &mut [u8])
+fn flag_chosen(
+    n: usize,
+    m: usize,
+    costs: &[u8],
+    froms: &[u16],
+    tos: &[u16],
+    choices: &[u16],
+    flags: &mut [u8],
+)
     requires { ⌜ Within n m (now costs) (now froms) (now tos) × (n ≤ length (now choices)) × (n ≤ length (now flags)) ⌝ }
     ensures { λ _. ⌜ Marked n (numberAt (now (froms .entry))) (isChosen (now (costs .entry)) (now (froms .entry)) (now (tos .entry)) (now (choices .entry))) (λ v. bit) m (now (flags .exit)) ⌝ }
 {
@@ -81,8 +213,16 @@ fn stays(i: usize, owners: &[u8], costs: &[u8], froms: &[u16], tos: &[u16], choi
 
 // Copies the i-th move to the place `at` of other rows, if it stays, and answers the next place.
 fn copy_move(
-    i: usize, at: usize, owners: &[u8], costs: &[u8], froms: &[u16], tos: &[u16], choices: &[u16],
-    costskept: &mut [u8], fromskept: &mut [u16], toskept: &mut [u16]
+    i: usize,
+    at: usize,
+    owners: &[u8],
+    costs: &[u8],
+    froms: &[u16],
+    tos: &[u16],
+    choices: &[u16],
+    costskept: &mut [u8],
+    fromskept: &mut [u16],
+    toskept: &mut [u16],
 ) -> usize
     requires { ⌜ (i < length (now costs)) × (i < length (now froms)) × (i < length (now tos)) × (getD (now froms) i 0 < length (now owners)) × (getD (now froms) i 0 < length (now choices)) ⌝ }
     requires { ⌜ (at < length (now costskept)) × (at < length (now fromskept)) × (at < length (now toskept)) ⌝ }
@@ -99,8 +239,16 @@ fn copy_move(
 
 // Copies the moves that stay, in their order, and counts them.
 fn restrict(
-    n: usize, m: usize, owners: &[u8], costs: &[u8], froms: &[u16], tos: &[u16], choices: &[u16],
-    costskept: &mut [u8], fromskept: &mut [u16], toskept: &mut [u16]
+    n: usize,
+    m: usize,
+    owners: &[u8],
+    costs: &[u8],
+    froms: &[u16],
+    tos: &[u16],
+    choices: &[u16],
+    costskept: &mut [u8],
+    fromskept: &mut [u16],
+    toskept: &mut [u16],
 ) -> usize
     requires { ⌜ Within n m (now costs) (now froms) (now tos) × (n ≤ length (now owners)) × (n ≤ length (now choices)) ⌝ }
     requires { ⌜ (m ≤ length (now costskept)) × (m ≤ length (now fromskept)) × (m ≤ length (now toskept)) ⌝ }
@@ -109,7 +257,18 @@ fn restrict(
     let mut count: usize = 0;
     let mut i: usize = 0;
     while i < m {
-        count = copy_move(i, count, owners, costs, froms, tos, choices, costskept, fromskept, toskept);
+        count = copy_move(
+            i,
+            count,
+            owners,
+            costs,
+            froms,
+            tos,
+            choices,
+            costskept,
+            fromskept,
+            toskept,
+        );
         i += 1;
     }
     count

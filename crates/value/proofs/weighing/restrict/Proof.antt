@@ -44,9 +44,14 @@ loop-again c =
     let turn = c .before .before .before .before .before .before .before .before .before .before .loop-test .taken in
     let one = c .before .before .before .before .before .before .copy-move in
     let next = next-at-most (one .ensures) in
-    let kept = one .kept in
-    (omega (arith, turn), omega (arith, at-loop, next), omega (arith, at-loop, kept), omega (arith, at-loop, kept), omega (arith, at-loop, kept),
-    copied-next (at-loop .loop .inv .5) (omega (arith, start, at-loop, turn)) (omega (arith, start, at-loop, turn)) (omega (arith, start, at-loop, turn)) (one .ensures))
+    let kept = one .kept in (
+      omega (arith, turn),
+      omega (arith, at-loop, next),
+      omega (arith, at-loop, kept),
+      omega (arith, at-loop, kept),
+      omega (arith, at-loop, kept),
+      copied-next (at-loop .loop .inv .5) (omega (arith, start, at-loop, turn)) (omega (arith, start, at-loop, turn)) (omega (arith, start, at-loop, turn)) (one .ensures),
+    )
 
 same-length : tie.Need-same-length Inv-loop μ-loop
 same-length c = omega arith
