@@ -1,24 +1,16 @@
 -- T12: "An accepted plate has the right values and an optimal controller, whoever made it. With right values and any optimal
 -- positional controller, the steps above make a plate that is accepted."
-use Prim.Native.Nat.{ℕ, _<_}
+use Prim.Native.Nat.{ℕ}
 use mathlib.Core.Path.{_≡_}
 use Rattle.game.specs.Value.{Value}
 use Rattle.game.specs.Arena.{Arena, WellFormed, size}
-use Rattle.game.specs.Play.{Legal, positional}
 use Rattle.game.specs.Table.{roundStep}
 use Rattle.game.specs.Certified.{certificate-is-legal, certificate-gives-values, certificate-gives-worths}
-use Rattle.game.specs.Optimal.{RightValues, WorthsAre}
 use Rattle.game.specs.RoundValues.{optimal-choices-with-round-steps-have-a-certificate}
 use Rattle.value.specs.declared.summary.Summary.{Summary}
-use Rattle.audit.specs.Verdict.{HeaderIs, verdictOf}
+use Rattle.audit.specs.Verdict.{HeaderIs, RightPlate, verdictOf}
 use Rattle.audit.specs.Exact.{sound-exactly}
 use Rattle.audit.specs.declared.rows.Verdict.the-variants.{Sound}
-
--- right values, and legal choices whose controller is worth them everywhere
-pub record RightPlate (a : Arena) (value choice : ℕ → Value) : Type 0 where
-  pub right : RightValues a value
-  pub legal : Legal a choice
-  pub optimal : WorthsAre a (positional a choice legal) value
 
 module _ (a : Arena) (well : WellFormed a) (value choice step : ℕ → Value) (h : Summary) where
   pub accepted-is-right : verdictOf a value choice step h ≡ Sound → RightPlate a value choice

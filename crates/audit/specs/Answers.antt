@@ -7,12 +7,10 @@ use Rattle.game.specs.Certificate.{Certificate}
 use Rattle.chart.specs.Meaning.{arenaOf}
 use Rattle.chart.specs.Examined.{examined}
 use Rattle.chart.specs.declared.Chart.{Chart}
-use Rattle.chart.specs.declared.Refusal.{Refusal}
 use Rattle.chart.specs.declared.Examination.the-variants.{Accepted as Taken, Refused as Turned}
 use Rattle.plate.specs.Form.{OfForm, BadAt}
 use Rattle.plate.specs.Read.{headerIn, valueIn, choiceIn, stepIn}
-use Rattle.audit.specs.Verdict.{HeaderIs}
-use Rattle.audit.specs.Exact.{FirstFaultIs}
+use Rattle.audit.specs.Verdict.{FirstFaultIs, HeaderIs}
 use Rattle.audit.specs.declared.Checked.{Checked}
 use Rattle.audit.specs.declared.Checked.the-variants.{Accepted, Refused, Form, Fault}
 

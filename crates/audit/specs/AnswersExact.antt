@@ -1,10 +1,9 @@
 -- Each answer is given exactly when its condition holds: by cases on the chart's examination, the plate's form and the first
 -- fault, each of which is exact.
 use Prim.Native.Nat.{ℕ}
-use mathlib.Core.Path.{_≡_, refl, sym, ap, subst, _∙_}
+use mathlib.Core.Path.{_≡_, refl, subst}
 use mathlib.Core.Logic.{_↔_}
 use mathlib.Core.List.{List}
-use Rattle.game.specs.Arena.{Arena}
 use Rattle.chart.specs.Meaning.{arenaOf}
 use Rattle.chart.specs.Examined.{examined}
 use Rattle.chart.specs.declared.Chart.{Chart}
@@ -20,7 +19,7 @@ use Rattle.plate.specs.declared.Form.the-variants.{Good, Bad}
 use Rattle.audit.specs.Verdict.{verdictOf}
 use Rattle.audit.specs.Exact.{sound-exactly, first-fault-exactly}
 use Rattle.audit.specs.Checking.{answerOf, chartChecked, checked, plateChecked}
-use Rattle.audit.specs.Answers.{AcceptedIs, FormIs, FaultIs, AnswerIs}
+use Rattle.audit.specs.Answers.{FormIs, AnswerIs}
 use Rattle.audit.specs.declared.rows.Verdict.{Verdict}
 use Rattle.audit.specs.declared.rows.Verdict.the-variants.{Sound, Fault}
 use Rattle.audit.specs.declared.Checked.{Checked}

@@ -1,10 +1,9 @@
 -- What is read of a plate of the form is what checking its rows wants, and the answer to the rows is the answer to the plate.
 use Prim.Native.Nat.{ℕ, _≤_, _<_}
 use native.Mathlib.Omega.{arith}
-use mathlib.Core.Path.{_≡_, refl, sym, ap, subst, _∙_}
+use mathlib.Core.Path.{_≡_, refl, sym, ap, _∙_}
 use mathlib.Core.Logic.{_⊎_, inl, inr}
 use mathlib.Core.List.{List}
-use lib.ListN.{length, getD}
 use Rattle.game.specs.Value.{Value, fin, ever, numberOf}
 use Rattle.game.specs.Arena.{Arena, size, positionAt}
 use Rattle.game.specs.Play.{targetOf}
@@ -29,12 +28,12 @@ use Rattle.plate.specs.RowTrip.{Agree, row-column}
 use Rattle.plate.specs.declared.Form.the-variants.{Good, Bad}
 use Rattle.audit.specs.Verdict.{verdictOf}
 use Rattle.audit.specs.Sheet.{Ascending, Formed, sheet}
-use Rattle.audit.specs.Checked.{RowsChecked}
+use Rattle.audit.specs.RowsChecked.{RowsChecked}
 use Rattle.audit.specs.Checking.{PlateIs, answerOf, chartChecked, checked, plateChecked}
 use Rattle.audit.specs.SameFault.{verdict-same}
 use Rattle.audit.specs.declared.rows.Verdict.{Verdict}
 use Rattle.audit.specs.declared.Checked.{Checked}
-use Rattle.audit.specs.declared.Checked.the-variants.{Accepted, Refused, Form}
+use Rattle.audit.specs.declared.Checked.the-variants.{Refused, Form}
 
 -- the loaded moves lie by their positions
 pub decoded-ascending : (text : List ℕ) (chart : Chart) → examined text ≡ Taken chart → {n : ℕ} {owners costs froms tos : List ℕ}

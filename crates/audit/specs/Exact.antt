@@ -1,31 +1,24 @@
 -- T12: a plate's rows are sound exactly when they have the certificate and the header's numbers are those of the lines; else
 -- the answer is exactly the first fault, "positions from 0 up and in each the conditions in order".
-use Prim.Native.Nat.{ℕ, zero, suc, _≤_, _<_}
-use native.Mathlib.Decide.{ℕ-discrete}
+use Prim.Native.Nat.{ℕ, zero, suc, _<_}
 use native.Mathlib.Omega.{arith}
-use mathlib.Core.Path.{_≡_, refl, sym, ap, subst, _∙_}
+use mathlib.Core.Path.{_≡_, refl, sym, subst, _∙_}
 use mathlib.Core.Logic.{_⊎_, inl, inr, ⊎-elim, _↔_}
-use mathlib.Core.Bool.{Bool, true, false, cond, not, _&&_}
+use mathlib.Core.Bool.{Bool, not, _&&_}
 use lib.Dec.{T, eqb, eqb→eq, T-not}
 use borrow.Author.Tests.{eq-eqb}
 use Rattle.game.specs.Value.{Value, numberOf}
 use Rattle.game.specs.Arena.{Arena, size}
-use Rattle.game.specs.Certificate.{Certificate, CertifiedAt}
+use Rattle.game.specs.Certificate.{Certificate}
 use Rattle.game.specs.Fault.{faultAt}
-use Rattle.game.specs.FirstFault.{FirstFault}
 use Rattle.game.specs.FaultLaws.{fault-exactly, no-fault-exactly}
 use Rattle.game.specs.MoveTests.{and-left, and-right, and-both, is-true, is-false, passes-or-fails}
 use Rattle.game.specs.Summary.{pairCount, highest, everCount}
 use Rattle.value.specs.declared.summary.Summary.{Summary}
-use Rattle.audit.specs.Verdict.{HeaderIs, firstFrom, headerRight, headerVerdict, verdictOf}
+use Rattle.audit.specs.Verdict.{FirstFaultIs, HeaderIs, atHeader, atPosition, firstFrom, headerRight, headerVerdict, verdictOf}
 use Rattle.audit.specs.VerdictLaws.{first-fault, first-or-none, no-fault}
 use Rattle.audit.specs.declared.rows.Verdict.{Verdict}
 use Rattle.audit.specs.declared.rows.Verdict.the-variants.{Sound, Fault}
-
--- the first fault is at position v, of condition c: 1 to 5, or 6 with position n
-pub data FirstFaultIs (a : Arena) (value choice step : ℕ → Value) (h : Summary) : ℕ → ℕ → Type 0 where
-  atPosition : {v c : ℕ} → v < size a → ((u : ℕ) → u < v → CertifiedAt a value choice step u) → FirstFault a value choice step (suc c) v → FirstFaultIs a value choice step h v (suc c)
-  atHeader : Certificate a value choice step → (HeaderIs (size a) value step h → ⊥) → FirstFaultIs a value choice step h (size a) 6
 
 -- the test of the header is its record
 pub header-test : (n : ℕ) (value step : ℕ → Value) (h : Summary) → T (headerRight n value step h) ↔ HeaderIs n value step h

@@ -2,12 +2,12 @@
 use Prim.Native.Nat.{ℕ, zero, suc, _-_, _≤_, _<_}
 use native.Mathlib.Decide.{ℕ-discrete, decLe}
 use native.Mathlib.Omega.{arith}
-use mathlib.Core.Path.{_≡_, refl, sym, ap, _∙_}
+use mathlib.Core.Path.{_≡_, refl, ap, _∙_}
 use mathlib.Core.Logic.{_↔_}
 use mathlib.Core.Bool.{Bool, true, false, cond, not}
 use lib.Dec.{T, eqb, ltb, leb}
 use borrow.Author.Tests.{eq-eqb, ne-eqb, lt-ltb, le-ltb, le-leb, lt-leb}
-use Rattle.game.specs.Value.{Value, fin, ever, leV, ltV, eqV, _≼_, _⊕_, valueOf}
+use Rattle.game.specs.Value.{Value, fin, ever, leV, ltV, eqV, _⊕_, valueOf}
 use Rattle.game.specs.ValueLaws.{Fits, lessOne, at-least-less-one, smaller, leV-sound, ltV-sound, number-of-value}
 use Rattle.value.specs.ChooseLaws.{less-numbers}
 use Rattle.audit.specs.Position.{lessOneNumber}

@@ -4,15 +4,17 @@ use Prim.Native.Nat.{ℕ, _≤_, _<_}
 use native.Mathlib.Omega.{arith}
 use mathlib.Core.Path.{_≡_, refl, sym, ap, subst, _∙_}
 use mathlib.Core.List.{List}
-use Rattle.game.specs.Value.{Value, fin, ever, numberOf, valueOf}
+use Rattle.game.specs.Value.{Value, fin, ever, valueOf}
 use Rattle.game.specs.ValueLaws.{Fits, fin-injective, value-of-number}
 use Rattle.game.specs.Arena.{Arena, Owner, controller, environment, WellFormed, meantMove, ownerAt, size}
-use Rattle.game.specs.Play.{LegalAs, targetOf}
+use Rattle.game.specs.Play.{LegalAs}
 use Rattle.game.specs.Summary.{highest}
 use Rattle.game.specs.SummaryLaws.{pairs-within-size, evers-within-size}
 use Rattle.game.specs.Table.{roundValue, roundStep}
 use Rattle.game.specs.RoundBounds.{round-value-within-size, round-step-within-size, highest-within-size}
-use Rattle.game.specs.RoundValues.{the-value-is-the-rounds}
+use Rattle.game.specs.Best.{bestAt}
+use Rattle.game.specs.BestLaws.{best-is-legal}
+use Rattle.game.specs.RoundValues.{round-choices-are-worth-the-values, rounds-give-the-values, the-value-is-the-rounds}
 use Rattle.chart.specs.Meaning.{arenaOf}
 use Rattle.chart.specs.Examined.{examined}
 use Rattle.chart.specs.Accepted.{accepted-chartable, accepted-size}
@@ -25,8 +27,8 @@ use Rattle.plate.specs.Form.{OfForm}
 use Rattle.plate.specs.Range.{Below, InRange}
 use Rattle.plate.specs.Read.{headerIn, valueIn, choiceIn, stepIn}
 use Rattle.plate.specs.RoundTrip.{set-out-is-of-form, reading-undoes-writing}
-use Rattle.audit.specs.Verdict.{HeaderIs, verdictOf}
-use Rattle.audit.specs.Accepted.{RightPlate, accepted-is-right, right-is-accepted}
+use Rattle.audit.specs.Verdict.{HeaderIs, RightPlate, verdictOf}
+use Rattle.audit.specs.Accepted.{accepted-is-right, right-is-accepted}
 use Rattle.audit.specs.Exact.{sound-exactly}
 use Rattle.audit.specs.SameFault.{verdict-same}
 use Rattle.audit.specs.Checking.{checked}
@@ -102,3 +104,15 @@ right-plate-is-accepted text chart taken value choice right h header =
     let plate = plateText (size (arenaOf text)) h value choice (roundStep (arenaOf text)) in
     accepted-of text plate chart taken (subst (λ (n : ℕ). OfForm n plate) (accepted-size text chart taken) form) Sound
     (right-plate-sound (arenaOf text) (good .well-formed) (good .few-positions) value choice right h header)
+
+-- so the rounds' own plate is accepted
+pub rounds-plate-is-right : (a : Arena) → WellFormed a → RightPlate a (roundValue a) (bestAt a (roundValue a))
+rounds-plate-is-right a well =
+    record { right = rounds-give-the-values a well; legal = best-is-legal a (roundValue a) well; optimal = round-choices-are-worth-the-values a well }
+
+pub rounds-plate-is-accepted : (text : List ℕ) (chart : Chart) → examined text ≡ Taken chart → (h : Summary)
+    → HeaderIs (size (arenaOf text)) (roundValue (arenaOf text)) (roundStep (arenaOf text)) h
+    → checked text (plateText (size (arenaOf text)) h (roundValue (arenaOf text)) (bestAt (arenaOf text) (roundValue (arenaOf text))) (roundStep (arenaOf text))) ≡ Accepted
+rounds-plate-is-accepted text chart taken h header =
+    right-plate-is-accepted text chart taken (roundValue (arenaOf text)) (bestAt (arenaOf text) (roundValue (arenaOf text)))
+    (rounds-plate-is-right (arenaOf text) (accepted-chartable text chart taken .well-formed)) h header

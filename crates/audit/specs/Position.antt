@@ -1,6 +1,6 @@
 -- Conditions 1 to 5 of Checking at one position, as the code's tests on numbers: 65,535 stands for "ever" and the dash.
-use Prim.Native.Nat.{ℕ, _-_, _<_}
-use mathlib.Core.Bool.{Bool, Bool·beq, true, false, cond, not, _&&_, _||_}
+use Prim.Native.Nat.{ℕ, _-_}
+use mathlib.Core.Bool.{Bool, Bool·beq, false, cond, not, _&&_, _||_}
 use lib.Dec.{eqb, ltb}
 use Rattle.audit.specs.declared.position.Line.{Line}
 use Rattle.audit.specs.declared.position.Target.{Target}

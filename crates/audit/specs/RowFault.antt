@@ -6,10 +6,10 @@ use mathlib.Core.Path.{_≡_, refl, sym, ap, subst, _∙_}
 use mathlib.Core.Logic.{inl, inr}
 use mathlib.Core.Bool.{Bool, Bool·beq, true, false, cond, not, _&&_, _||_, and-false, or-false, Bool·not-not}
 use mathlib.Core.List.{List, [], _∷_}
-use lib.ListN.{length, getD}
+use lib.ListN.{getD}
 use lib.Dec.{T, eqb}
 use borrow.Author.Tests.{eq-eqb}
-use Rattle.game.specs.Value.{Value, fin, ever, leV, ltV, eqV, _⊕_, valueOf}
+use Rattle.game.specs.Value.{Value, fin, ever, leV, eqV, _⊕_}
 use Rattle.game.specs.ValueLaws.{eqV-sound}
 use Rattle.game.specs.Arena.{Arena, Move, Owner, controller, environment, ownerAt, positionAt, unsafe}
 use Rattle.game.specs.Play.{disturbanceCost, targetOf}
@@ -18,8 +18,8 @@ use Rattle.game.specs.Fault.{earlier, unsafeZero, dashed, legalAs, holdsAs, rui
 use Rattle.chart.specs.Rows.{RowIs, ownerNumber}
 use Rattle.value.specs.Held.{Decoded}
 use Rattle.value.specs.SummarizeLaws.{ever-number, same-values}
-use Rattle.audit.specs.Position.{afterMoves, beforeMoves, isController}
-use Rattle.audit.specs.Sheet.{Formed, Sheet, choiceAt, lineAt, rowFault, seenBelow, someShows, stepAt, valueAt}
+use Rattle.audit.specs.Position.{afterMoves, beforeMoves}
+use Rattle.audit.specs.Sheet.{Formed, Sheet, choiceAt, rowFault, seenBelow, someShows, stepAt, valueAt}
 use Rattle.audit.specs.Numbers.{finite-number, smaller-by-one}
 use Rattle.audit.specs.Shown.{Kind, moveShows, flag-is}
 use Rattle.audit.specs.declared.position.Seen.{Seen}
@@ -174,7 +174,7 @@ module _ (a : Arena) (n m : ℕ) (s : Sheet) (d : Decoded a n m (s .owners) (s .
         same x (inr c) f = rw (c, f, eq-eqb v v refl)
 
         other : (x : Move) → eqb (x .from) v ≡ false → (choiceLow x || disturbanceLow x) ≡ false
-        other x e = rw (e, and-false, and-false)
+        other x e = rw (e, and-false (eqb (x .cost) 0), and-false (eqb (x .cost) 1))
 
     -- where the choice is legal, no target is low exactly where holding is met
     holding-is : legalAs a (valueAt s) (choiceAt s) (stepAt s) controller v ≡ true → someShows (λ x. x .low) s m v ≡ not (holdsAs a (valueAt s) (choiceAt s) (stepAt s) controller v)

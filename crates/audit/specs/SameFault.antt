@@ -1,22 +1,20 @@
 -- Checking's answer goes by the columns at the arena's positions only: moves join positions, and so do choices in range.
-use Prim.Native.Nat.{ℕ, zero, suc, _≤_, _<_}
+use Prim.Native.Nat.{ℕ, _<_}
 use native.Mathlib.Omega.{arith}
-use mathlib.Core.Path.{_≡_, refl, sym, ap, _∙_}
-use mathlib.Core.Bool.{Bool, true, false, cond, not, _&&_, _||_}
+use mathlib.Core.Path.{_≡_, refl, ap, _∙_}
+use mathlib.Core.Bool.{Bool, cond, not, _&&_, _||_}
 use mathlib.Core.List.{List, [], _∷_, List·Memᴰ, List·Memᴰ·head, List·Memᴰ·tail}
-use Rattle.game.specs.Value.{Value, fin, ever, leV, eqV, _⊕_, numberOf}
+use Rattle.game.specs.Value.{Value, fin, ever, leV, eqV, _⊕_}
 use Rattle.game.specs.Arena.{Arena, Move, Owner, controller, environment, WellFormed, ownerAt, size, unsafe}
 use Rattle.game.specs.Play.{disturbanceCost, targetOf}
 use Rattle.game.specs.Table.{someMove, everyMove, meantFrom, disturbanceFrom}
 use Rattle.game.specs.Fault.{earlier, unsafeZero, dashed, legalAs, holdsAs, ruinedAs, ruined, faultAt}
-use Rattle.game.specs.Summary.{pairCount, highest, everCount}
+use Rattle.game.specs.Summary.{highest}
 use Rattle.value.specs.ValuingLaws.{pairs-same, highest-same, evers-same}
 use Rattle.value.specs.declared.summary.Summary.{Summary}
 use Rattle.plate.specs.RowTrip.{Agree}
-use Rattle.audit.specs.Verdict.{firstFrom, headerRight, headerVerdict, verdictOf}
+use Rattle.audit.specs.Verdict.{headerRight, headerVerdict, verdictOf}
 use Rattle.audit.specs.VerdictLaws.{same-first}
-use Rattle.audit.specs.declared.rows.Verdict.{Verdict}
-use Rattle.audit.specs.declared.rows.Verdict.the-variants.{Sound, Fault}
 
 -- tests that agree on the moves
 some-members : (p q : Move → Bool) (ms : List Move) → ((x : Move) → List·Memᴰ x ms → p x ≡ q x) → someMove p ms ≡ someMove q ms

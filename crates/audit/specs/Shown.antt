@@ -1,22 +1,20 @@
 -- What the moves of a position show in the code's rows is what the moves of the arena show, and what its conditions ask.
-use Prim.Native.Nat.{ℕ, _+_, _≤_, _<_}
+use Prim.Native.Nat.{ℕ, _≤_, _<_}
 use native.Mathlib.Decide.{ℕ-discrete}
 use native.Mathlib.Omega.{arith}
-use mathlib.Core.Path.{_≡_, refl, sym, ap, subst, _∙_}
+use mathlib.Core.Path.{_≡_, sym, ap, _∙_}
 use mathlib.Core.Logic.{_⊎_, inl, inr}
-use mathlib.Core.Bool.{Bool, true, false, cond, not, _&&_, _||_, and-true, and-false, Bool·not-not}
-use mathlib.Core.List.{List, List·Memᴰ, Memᴰ·cast}
-use lib.ListN.{length, getD}
-use lib.Dec.{T, eqb, ltb}
-use borrow.Author.Tests.{eq-eqb, ne-eqb}
-use Rattle.game.specs.Value.{Value, fin, ever, leV, ltV, eqV, _⊕_, valueOf}
-use Rattle.game.specs.Arena.{Arena, Move, Owner, controller, environment, WellFormed, ownerAt, moveAt, noMove, disturbanceMove, mayBeDisturbed}
+use mathlib.Core.Bool.{Bool, false, cond, not, _&&_, _||_}
+use mathlib.Core.List.{List·Memᴰ, Memᴰ·cast}
+use lib.ListN.{getD}
+use lib.Dec.{eqb, ltb}
+use Rattle.game.specs.Value.{Value, fin, leV, ltV, eqV, _⊕_}
+use Rattle.game.specs.Arena.{Arena, Move, Owner, controller, environment, ownerAt, moveAt, noMove, disturbanceMove}
 use Rattle.game.specs.Play.{disturbanceCost}
-use Rattle.game.specs.Table.{someMove, everyMove, meantFrom, disturbanceFrom}
+use Rattle.game.specs.Table.{someMove}
 use Rattle.game.specs.Fault.{earlier}
-use Rattle.chart.specs.Rows.{RowIs, ownerNumber}
+use Rattle.chart.specs.Rows.{ownerNumber}
 use Rattle.chart.specs.Accepted.{at-member}
-use Rattle.value.specs.RowLaws.{found, numberAt}
 use Rattle.value.specs.Held.{Decoded}
 use Rattle.value.specs.HeldLaws.{lines-of, to-inside}
 use Rattle.value.specs.SummarizeLaws.{same-values}

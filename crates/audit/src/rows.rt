@@ -7,7 +7,7 @@ ghost use Rattle.value.specs.Summarize.{PairsFit, rowValue};
 ghost use Rattle.value.specs.Valuing.{Decodable};
 ghost use Rattle.audit.specs.Sheet.{Ascending, Formed, Sized, lineOf, rowFault, sheet, targetOf};
 ghost use Rattle.audit.specs.Verdict.{firstFrom, headerVerdict};
-ghost use Rattle.audit.specs.Checked.{RowsChecked};
+ghost use Rattle.audit.specs.RowsChecked.{RowsChecked};
 use crate::position::Line;
 use crate::position::Seen;
 use crate::position::Target;

@@ -3,7 +3,7 @@
 use native.Mathlib.Omega.{arith}
 use borrow.Author.Needs.{needs}
 use mathlib.Core.Path.{sym, _∙_}
-use Rattle.audit.specs.CheckedLaws.{fault-checked, header-checked, sound-fits}
+use Rattle.audit.specs.RowsCheckedLaws.{fault-checked, header-checked, sound-fits}
 use Rattle.audit.proofs.rows.check_rows.Statement.{statement}
 use Rattle.audit.proofs.rows.check_rows.Tie as tie
 use Rattle.audit.proofs.rows.check_rows.Reads as reads

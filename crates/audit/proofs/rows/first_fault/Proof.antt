@@ -1,13 +1,12 @@
 -- `first_fault` meets its contract. Between positions, those below v have no fault and the first i moves are theirs; between
 -- moves of v, its moves among the first i were seen. Each way out has a law: a test before the moves fails, a breach of 4 at
 -- L, a test after the moves fails, or no position is left.
-use Prim.Native.Nat.{ℕ, _+_, _-_, _≤_, _<_}
+use Prim.Native.Nat.{_-_, _≤_}
 use native.Mathlib.Omega.{arith}
 use borrow.Author.Needs.{needs}
 use mathlib.Core.Path.{_≡_, refl, sym, ap, _∙_}
 use mathlib.Core.Logic.{⊎-elim, inl, inr}
 use mathlib.Core.Bool.{Bool, true, false, not, _&&_, true≢false}
-use lib.ListN.{length, getD}
 use Rattle.audit.specs.Position.{afterMoves, beforeMoves, isController}
 use Rattle.audit.specs.Sheet.{lineAt, sheet}
 use Rattle.audit.specs.declared.position.Line.{Line}

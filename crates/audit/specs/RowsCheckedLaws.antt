@@ -1,25 +1,24 @@
 -- The first fault of the rows, and then the header's test, is Checking's answer for every arena that the rows hold.
 use Prim.Native.Nat.{ℕ, _≤_, _<_}
-use native.Mathlib.Decide.{ℕ-discrete}
 use native.Mathlib.Omega.{arith}
-use mathlib.Core.Path.{_≡_, refl, sym, ap, subst, _∙_}
+use mathlib.Core.Path.{_≡_, sym, _∙_}
 use mathlib.Core.Logic.{_⊎_, inl, inr}
-use mathlib.Core.Bool.{Bool, Bool·beq, true, false, cond, not, _&&_}
+use mathlib.Core.Bool.{Bool, true, false, cond, not, _&&_}
 use lib.ListN.{getD}
 use lib.Dec.{eqb}
 use borrow.Author.Tests.{eq-eqb, ne-eqb}
-use Rattle.game.specs.Arena.{Arena, size, positionAt}
+use Rattle.game.specs.Arena.{Arena, positionAt}
 use Rattle.game.specs.Fault.{faultAt}
 use Rattle.chart.specs.Rows.{RowIs}
 use Rattle.value.specs.Held.{Decoded}
 use Rattle.value.specs.Summarize.{PairsFit}
 use Rattle.value.specs.declared.summary.Summary.{Summary}
-use Rattle.audit.specs.Position.{beforeMoves, isController, isEver, isUnsafe}
+use Rattle.audit.specs.Position.{beforeMoves, isUnsafe}
 use Rattle.audit.specs.Sheet.{Formed, Sheet, choiceAt, lineAt, rowFault, stepAt, valueAt}
 use Rattle.audit.specs.Verdict.{firstFrom, headerVerdict, verdictOf}
 use Rattle.audit.specs.VerdictLaws.{fault-then-fault, none-then-end, same-first}
 use Rattle.audit.specs.RowFault.{row-fault-is}
-use Rattle.audit.specs.Checked.{RowsChecked}
+use Rattle.audit.specs.RowsChecked.{RowsChecked}
 use Rattle.audit.specs.declared.rows.Verdict.{Verdict}
 use Rattle.audit.specs.declared.rows.Verdict.the-variants.{Sound, Fault}
 

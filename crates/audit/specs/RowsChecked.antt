@@ -1,7 +1,6 @@
 -- What checking rows answers: for every arena that the chart's rows hold, Checking's answer to the plate's rows.
 use Prim.Native.Nat.{ℕ}
 use mathlib.Core.Path.{_≡_}
-use mathlib.Core.List.{List}
 use Rattle.game.specs.Arena.{Arena, positionAt}
 use Rattle.chart.specs.Rows.{RowIs}
 use Rattle.value.specs.Held.{Decoded}
