@@ -208,9 +208,9 @@ module _ (a : Arena) (n m : ℕ) (s : Sheet) (d : Decoded a n m (s .owners) (s .
         go false f = refl
 
   module _ (own : ownerAt a v ≡ environment) where
-    lane-low-is : not (someShows (λ x. x .low) s m v) ≡ holdsAs a (valueAt s) (choiceAt s) (stepAt s) environment v
+    environment-low-is : not (someShows (λ x. x .low) s m v) ≡ holdsAs a (valueAt s) (choiceAt s) (stepAt s) environment v
     unfolding holdsAs everyMove moveShows meantFrom
-    lane-low-is = ap not (flag-is a n m s d few formed v inside environment own (λ x. x .low) (λ x. not (not (meantFrom v x) || q (x .to))) same (not-meant-only q))
+    environment-low-is = ap not (flag-is a n m s d few formed v inside environment own (λ x. x .low) (λ x. not (not (meantFrom v x) || q (x .to))) same (not-meant-only q))
       where
         q : ℕ → Bool
         q w = leV (valueAt s v) (valueAt s w)
@@ -218,9 +218,9 @@ module _ (a : Arena) (n m : ℕ) (s : Sheet) (d : Decoded a n m (s .owners) (s .
         same : (x : Move) → Kind environment x → x .from ≡ v → shows environment x .low ≡ not (not (meantFrom v x) || q (x .to))
         same x c f = rw (c, f, eq-eqb v v refl)
 
-    lane-ruin-is : someShows (λ x. x .ruin) s m v ≡ ruinedAs a (valueAt s) (choiceAt s) (stepAt s) environment v
+    environment-ruin-is : someShows (λ x. x .ruin) s m v ≡ ruinedAs a (valueAt s) (choiceAt s) (stepAt s) environment v
     unfolding ruinedAs moveShows meantFrom
-    lane-ruin-is = flag-is a n m s d few formed v inside environment own (λ x. x .ruin) (λ x. meantFrom v x && q (x .to)) same (meant-only q)
+    environment-ruin-is = flag-is a n m s d few formed v inside environment own (λ x. x .ruin) (λ x. meantFrom v x && q (x .to)) same (meant-only q)
       where
         q : ℕ → Bool
         q w = earlier a (valueAt s) (choiceAt s) (stepAt s) w v
@@ -272,5 +272,5 @@ module _ (a : Arena) (n m : ℕ) (s : Sheet) (d : Decoded a n m (s .owners) (s .
           ∙ same-shape (unsafe a v) (eqV (valueAt s v) (fin 0)) (eqV (valueAt s v) ever) (eqV (stepAt s v) ever) false (eqV (choiceAt s v) ever)
           (someShows (λ x. x .chosen) s m v) (someShows (λ x. x .low) s m v) (someShows (λ x. x .ruin) s m v) (someShows (λ x. x .late) s m v)
           (legalAs a (valueAt s) (choiceAt s) (stepAt s) environment v) (holdsAs a (valueAt s) (choiceAt s) (stepAt s) environment v) (ruinedAs a (valueAt s) (choiceAt s) (stepAt s) environment v)
-          refl (λ t. sym (Bool·not-not (someShows (λ x. x .low) s m v)) ∙ ap not (lane-low-is own)) (λ finite. or-false _ ∙ lane-ruin-is own)
+          refl (λ t. sym (Bool·not-not (someShows (λ x. x .low) s m v)) ∙ ap not (environment-low-is own)) (λ finite. or-false _ ∙ environment-ruin-is own)
           ∙ rw own

@@ -113,12 +113,12 @@ fn show(line: Line, target: Target) -> Seen
         };
     }
     let chosen = line.choice == target.to;
-    let lane = line.owner != 0;
+    let environment = line.owner != 0;
     let sooner = earlier(line, target);
     Seen {
         chosen,
-        low: (lane | chosen) & (target.value < line.value),
-        ruin: lane & sooner,
+        low: (environment | chosen) & (target.value < line.value),
+        ruin: environment & sooner,
         late: !sooner,
     }
 }

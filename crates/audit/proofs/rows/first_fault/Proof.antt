@@ -24,9 +24,9 @@ use Rattle.audit.proofs.rows.line_at.Reads as line-at-reads
 use Rattle.audit.proofs.rows.target_at.Reads as target-at-reads
 
 -- the breach that is answered at once, taken apart
-lane-low : (o low : Bool) → (not o && low) ≡ true → (o ≡ false) × (low ≡ true)
-lane-low true low e = absurd (true≢false (sym e))
-lane-low false low e = (refl, e)
+environment-low : (o low : Bool) → (not o && low) ≡ true → (o ≡ false) × (low ≡ true)
+environment-low true low e = absurd (true≢false (sym e))
+environment-low false low e = (refl, e)
 
 abbrev Inv-loop : tie.InvT-loop
 Inv-loop n m owners marks costs froms tos values choices steps v i₀ line early seen₀ i seen =
@@ -121,7 +121,7 @@ returns-3 : tie.Need-returns-3 Inv-loop μ-loop Inv-positions μ-positions
 returns-3 c =
     let at = c .before .before .before .before .before .before .before .before .loop .inv in
     let more = c .before .before .before .before .before .before .before .loop-test .taken in
-    let breach = lane-low (isController (c .before .before .before .before .before .before .before .before .before .before .before .before .line-at .result)) _ (c .if4 .taken) in
+    let breach = environment-low (isController (c .before .before .before .before .before .before .before .before .before .before .before .before .line-at .result)) _ (c .if4 .taken) in
     let seen = move-seen (at .2) (c .before .before .before .before .before .before .before .before .before .before .before .before .before .before .before .before .before .before .before .before .before .before .before .pre .1) more (c .before .before .before .before .before .if3 .left) (c .before .before .before .see .ensures) (at .1) (c .before .before .before .before .target-at .ensures) in
     let low = low-fault seen (omega (arith, more)) (sym (ap isController (at .1)) ∙ breach .0) (breach .1) in
     sym (first-fault _ _ _ _ _ (c .before .before .before .before .before .before .before .before .before .before .before .before .before .if1 .left) (at .2 .clean) low (λ z. omega arith))
