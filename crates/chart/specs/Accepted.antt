@@ -52,7 +52,7 @@ unfolding rises moveOn
 line-rises text i h = above-rises (moveOn text (i - 1)) (moveOn text i) h
 
 -- a position with a flagged meant move has a line with one
-meant-line : (text : List ℕ) (n m v : ℕ) → meantIn text n m v ≡ true → (j : ℕ) × (j < m) × (letterAt text (n + 1 + j) ≡ 77) × (fromAt text (n + 1 + j) ≡ v)
+pub meant-line : (text : List ℕ) (n m v : ℕ) → meantIn text n m v ≡ true → (j : ℕ) × (j < m) × (letterAt text (n + 1 + j) ≡ 77) × (fromAt text (n + 1 + j) ≡ v)
 unfolding meantIn meantLine
 meant-line text n zero v h = let y : _≡_ {A = ℕ} 0 1 = cc in absurd (omega arith)
 meant-line text n (suc m) v h = go (meantIn text n m v) (eqb (letterAt text (n + 1 + m)) 77) refl refl (meant-line text n m v)
