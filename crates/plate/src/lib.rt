@@ -1,0 +1,366 @@
+// The plate's text (document 01, "The plate") at the level of rows: a header and three rows of numbers are set out as lines of
+// 22 bytes, and a plate of the form under 11 is read back into them. 65,535 stands for `ever` and `-` in the rows.
+ghost use mathlib.Core.Path.{_≡_};
+ghost use mathlib.Core.List.{[], _∷_, _++_};
+ghost use Prim.Native.Nat.{_+_, _*_, _≤_, _<_};
+ghost use lib.ListN.{length, drop};
+ghost use lib.Seq.{sets};
+ghost use Rattle.field.specs.Text.{five};
+ghost use Rattle.game.specs.Value.{valueOf};
+ghost use Rattle.value.specs.Summarize.{rowValue};
+ghost use Rattle.plate.specs.Text.{entryAt, withEntry, sameText, lineText, valueEntry, dashEntry, positionLine, positionLines, plateText};
+ghost use Rattle.plate.specs.Formed.{numberIs, numberBelow, dashOrBelow, everOrBelow, framed, headerGood, positionGood, firstBad, formOf};
+ghost use Rattle.plate.specs.Read.{entryNumber, RowsRead};
+use field::Field;
+use value::solve::NONE;
+use value::summary::Summary;
+
+// The bytes of a line.
+pub const LINE: usize = 22;
+
+// What a field of a plate reads as.
+pub enum Entry {
+    Number(u32),
+    Dash,
+    Ever,
+    Bad,
+}
+
+// What examining a plate finds: the form, or the lowest line that is not of it.
+pub enum Form {
+    Good,
+    Bad(usize),
+}
+
+// A plate of n positions into `out`; what lies past its last line stays. The bounds keep the rows and the buffer long enough,
+// and the count within its field.
+pub fn write_rows(
+    n: usize,
+    header: Summary,
+    values: &[u16],
+    choices: &[u16],
+    steps: &[u16],
+    out: &mut [u8],
+)
+    requires { ⌜ (n ≤ 512) × (n ≤ length (now values)) × (n ≤ length (now choices)) × (n ≤ length (now steps)) ⌝ }
+    requires { ⌜ (n + 1) * 22 ≤ length (now out) ⌝ }
+    ensures { λ _. ⌜ now (out .exit) ≡ plateText n header (rowValue (now (values .entry))) (rowValue (now (choices .entry))) (rowValue (now (steps .entry))) ++ drop ((n + 1) * 22) (now (out .entry)) ⌝ }
+{
+    write_line(
+        b'P',
+        Entry::Number(n as u32),
+        Entry::Number(header.rounds as u32),
+        dash_entry(header.highest),
+        Entry::Number(header.evers as u32),
+        out,
+    );
+    let at = LINE;
+    write_positions(n, values, choices, steps, &mut out[at..]);
+}
+
+// The lines of n positions into the part of the buffer that begins with them, each into its own part of it.
+fn write_positions(n: usize, values: &[u16], choices: &[u16], steps: &[u16], lines: &mut [u8])
+    requires { ⌜ (n ≤ 512) × (n ≤ length (now values)) × (n ≤ length (now choices)) × (n ≤ length (now steps)) ⌝ }
+    requires { ⌜ n * 22 ≤ length (now lines) ⌝ }
+    ensures { λ _. ⌜ now (lines .exit) ≡ positionLines (rowValue (now (values .entry))) (rowValue (now (choices .entry))) (rowValue (now (steps .entry))) n ++ drop (n * 22) (now (lines .entry)) ⌝ }
+{
+    let mut v = 0;
+    while v < n {
+        let at = v * LINE;
+        write_position(v, values[v], choices[v], steps[v], &mut lines[at..]);
+        v += 1;
+    }
+}
+
+// A position's line into the part of the buffer that begins with it.
+fn write_position(v: usize, value: u16, choice: u16, step: u16, part: &mut [u8])
+    requires { ⌜ (v < 512) × (22 ≤ length (now part)) ⌝ }
+    ensures { λ _. ⌜ now (part .exit) ≡ positionLine v (valueOf value) (valueOf choice) (valueOf step) ++ drop 22 (now (part .entry)) ⌝ }
+{
+    write_line(
+        b'V',
+        Entry::Number(v as u32),
+        value_entry(value),
+        dash_entry(choice),
+        dash_entry(step),
+        part,
+    )
+}
+
+// A line into the first 22 bytes of a part; the others stay.
+fn write_line(letter: u8, a: Entry, b: Entry, c: Entry, d: Entry, part: &mut [u8])
+    requires { ⌜ 22 ≤ length (now part) ⌝ }
+    ensures { λ _. ⌜ now (part .exit) ≡ lineText letter a b c d ++ drop 22 (now (part .entry)) ⌝ }
+{
+    part[0] = letter;
+    write_entry(a, part, 1);
+    write_entry(b, part, 6);
+    write_entry(c, part, 11);
+    write_entry(d, part, 16);
+    part[21] = 10;
+}
+
+// The entry of a value, and of a number in a column of dashes.
+fn value_entry(x: u16) -> Entry
+    ensures { λ r. ⌜ r ≡ valueEntry (valueOf x) ⌝ }
+{
+    if x == NONE {
+        Entry::Ever
+    } else {
+        Entry::Number(x as u32)
+    }
+}
+
+fn dash_entry(x: u16) -> Entry
+    ensures { λ r. ⌜ r ≡ dashEntry (valueOf x) ⌝ }
+{
+    if x == NONE {
+        Entry::Dash
+    } else {
+        Entry::Number(x as u32)
+    }
+}
+
+// An entry into its five places from `at`. The bound keeps them within the text. A bad one is left blank.
+pub fn write_entry(e: Entry, text: &mut [u8], at: usize)
+    requires { ⌜ at + 5 ≤ length (now text) ⌝ }
+    ensures { λ _. ⌜ now (text .exit) ≡ withEntry (now (text .entry)) at e ⌝ }
+{
+    match e {
+        Entry::Number(x) => field::write(x, text, at),
+        Entry::Dash => write_word(b' ', b' ', b' ', b'-', text, at),
+        Entry::Ever => write_word(b'e', b'v', b'e', b'r', text, at),
+        Entry::Bad => write_word(b' ', b' ', b' ', b' ', text, at),
+    }
+}
+
+// A space and four bytes.
+fn write_word(b: u8, c: u8, d: u8, e: u8, text: &mut [u8], at: usize)
+    requires { ⌜ at + 5 ≤ length (now text) ⌝ }
+    ensures { λ _. ⌜ now (text .exit) ≡ sets (now (text .entry)) at (32 ∷ b ∷ c ∷ d ∷ e ∷ []) ⌝ }
+{
+    text[at] = b' ';
+    text[at + 1] = b;
+    text[at + 2] = c;
+    text[at + 3] = d;
+    text[at + 4] = e;
+}
+
+// Whether a text is a plate of n positions of the form under 11, and if not its lowest bad line. Its length is tested first, as
+// line 0.
+pub fn examine_plate(n: usize, plate: &[u8]) -> Form
+    ensures { λ r. ⌜ r ≡ formOf n (now (plate .entry)) ⌝ }
+{
+    let lines = plate.len() / LINE;
+    if plate.len() % LINE != 0 {
+        return Form::Bad(0);
+    }
+    if lines == 0 {
+        return Form::Bad(0);
+    }
+    if lines - 1 != n {
+        return Form::Bad(0);
+    }
+    if !header_good(n, plate) {
+        return Form::Bad(0);
+    }
+    positions_form(n, plate)
+}
+
+// The lowest bad line after the first.
+fn positions_form(n: usize, plate: &[u8]) -> Form
+    requires { ⌜ (n + 1) * 22 ≤ length (now plate) ⌝ }
+    ensures { λ r. ⌜ r ≡ firstBad (positionGood n (now (plate .entry))) n 0 ⌝ }
+{
+    let mut v = 0;
+    while v < n {
+        if !position_good(n, plate, v) {
+            return Form::Bad(v + 1);
+        }
+        v += 1;
+    }
+    Form::Good
+}
+
+// The first line: n, rounds, highest, count of "ever".
+fn header_good(n: usize, plate: &[u8]) -> bool
+    requires { ⌜ 22 ≤ length (now plate) ⌝ }
+    ensures { λ r. ⌜ r ≡ headerGood n (now (plate .entry)) ⌝ }
+{
+    if !framed(plate, 0, b'P') {
+        return false;
+    }
+    if !number_is(plate, 1, n) {
+        return false;
+    }
+    if !number_below(plate, 6, 513) {
+        return false;
+    }
+    if !dash_or_below(plate, 11, 512) {
+        return false;
+    }
+    number_below(plate, 16, 513)
+}
+
+// A position's line: position, value, choice, step.
+fn position_good(n: usize, plate: &[u8], v: usize) -> bool
+    requires { ⌜ (v + 2) * 22 ≤ length (now plate) ⌝ }
+    ensures { λ r. ⌜ r ≡ positionGood n (now (plate .entry)) v ⌝ }
+{
+    let at = (v + 1) * LINE;
+    if !framed(plate, at, b'V') {
+        return false;
+    }
+    if !number_is(plate, at + 1, v) {
+        return false;
+    }
+    if !ever_or_below(plate, at + 6, 512) {
+        return false;
+    }
+    if !dash_or_below(plate, at + 11, n) {
+        return false;
+    }
+    dash_or_below(plate, at + 16, 512)
+}
+
+// A line begins with the letter and ends with a line feed.
+fn framed(plate: &[u8], at: usize, letter: u8) -> bool
+    requires { ⌜ at + 22 ≤ length (now plate) ⌝ }
+    ensures { λ r. ⌜ r ≡ framed (now (plate .entry)) at letter ⌝ }
+{
+    if plate[at] != letter {
+        return false;
+    }
+    plate[at + 21] == 10
+}
+
+// What an entry is: one number, a number below a bound, or else a dash, or else "ever".
+fn number_is(plate: &[u8], at: usize, n: usize) -> bool
+    requires { ⌜ at + 5 ≤ length (now plate) ⌝ }
+    ensures { λ r. ⌜ r ≡ numberIs n (entryAt (now (plate .entry)) at) ⌝ }
+{
+    match read_entry(plate, at) {
+        Entry::Number(x) => x as usize == n,
+        Entry::Dash => false,
+        Entry::Ever => false,
+        Entry::Bad => false,
+    }
+}
+
+fn number_below(plate: &[u8], at: usize, bound: usize) -> bool
+    requires { ⌜ at + 5 ≤ length (now plate) ⌝ }
+    ensures { λ r. ⌜ r ≡ numberBelow bound (entryAt (now (plate .entry)) at) ⌝ }
+{
+    match read_entry(plate, at) {
+        Entry::Number(x) => (x as usize) < bound,
+        Entry::Dash => false,
+        Entry::Ever => false,
+        Entry::Bad => false,
+    }
+}
+
+fn dash_or_below(plate: &[u8], at: usize, bound: usize) -> bool
+    requires { ⌜ at + 5 ≤ length (now plate) ⌝ }
+    ensures { λ r. ⌜ r ≡ dashOrBelow bound (entryAt (now (plate .entry)) at) ⌝ }
+{
+    match read_entry(plate, at) {
+        Entry::Number(x) => (x as usize) < bound,
+        Entry::Dash => true,
+        Entry::Ever => false,
+        Entry::Bad => false,
+    }
+}
+
+fn ever_or_below(plate: &[u8], at: usize, bound: usize) -> bool
+    requires { ⌜ at + 5 ≤ length (now plate) ⌝ }
+    ensures { λ r. ⌜ r ≡ everOrBelow bound (entryAt (now (plate .entry)) at) ⌝ }
+{
+    match read_entry(plate, at) {
+        Entry::Number(x) => (x as usize) < bound,
+        Entry::Dash => false,
+        Entry::Ever => true,
+        Entry::Bad => false,
+    }
+}
+
+// A plate of the form into the first line's numbers and three rows; what lies past the last position's number stays.
+pub fn read_rows(
+    n: usize,
+    plate: &[u8],
+    values: &mut [u16],
+    choices: &mut [u16],
+    steps: &mut [u16],
+) -> Summary
+    requires { ⌜ (n ≤ 512) × (formOf n (now plate) ≡ Form.Good) ⌝ }
+    requires { ⌜ (n ≤ length (now values)) × (n ≤ length (now choices)) × (n ≤ length (now steps)) ⌝ }
+    ensures { λ r. ⌜ RowsRead n (now (plate .entry)) r (now (values .entry)) (now (values .exit)) (now (choices .entry)) (now (choices .exit)) (now (steps .entry)) (now (steps .exit)) ⌝ }
+{
+    let mut v = 0;
+    while v < n {
+        let at = (v + 1) * LINE;
+        values[v] = number_at(plate, at + 6);
+        choices[v] = number_at(plate, at + 11);
+        steps[v] = number_at(plate, at + 16);
+        v += 1;
+    }
+    Summary {
+        rounds: number_at(plate, 6),
+        highest: number_at(plate, 11),
+        evers: number_at(plate, 16),
+    }
+}
+
+// The number of an entry in a row. The bounds keep its bytes within the text, and it within 16 bits.
+fn number_at(plate: &[u8], at: usize) -> u16
+    requires { ⌜ (at + 5 ≤ length (now plate)) × (entryNumber (entryAt (now plate) at) ≤ 65535) ⌝ }
+    ensures { λ r. ⌜ r ≡ entryNumber (entryAt (now (plate .entry)) at) ⌝ }
+{
+    match read_entry(plate, at) {
+        Entry::Number(x) => x as u16,
+        Entry::Dash => NONE,
+        Entry::Ever => NONE,
+        Entry::Bad => NONE,
+    }
+}
+
+// The entry at `at`. The bound keeps its five bytes within the text.
+pub fn read_entry(text: &[u8], at: usize) -> Entry
+    requires { ⌜ at + 5 ≤ length (now text) ⌝ }
+    ensures { λ r. ⌜ r ≡ entryAt (now (text .entry)) at ⌝ }
+{
+    match field::read(text, at) {
+        Field::Number(x) => Entry::Number(x),
+        Field::Bad => {
+            if spells(text, at, b' ', b' ', b' ', b'-') {
+                return Entry::Dash;
+            }
+            if spells(text, at, b'e', b'v', b'e', b'r') {
+                return Entry::Ever;
+            }
+            Entry::Bad
+        }
+    }
+}
+
+// Whether the five bytes from `at` are a space and these.
+fn spells(text: &[u8], at: usize, b: u8, c: u8, d: u8, e: u8) -> bool
+    requires { ⌜ at + 5 ≤ length (now text) ⌝ }
+    ensures { λ r. ⌜ r ≡ sameText (five (now (text .entry)) at) (32 ∷ b ∷ c ∷ d ∷ e ∷ []) ⌝ }
+{
+    if text[at] != b' ' {
+        return false;
+    }
+    if text[at + 1] != b {
+        return false;
+    }
+    if text[at + 2] != c {
+        return false;
+    }
+    if text[at + 3] != d {
+        return false;
+    }
+    if text[at + 4] != e {
+        return false;
+    }
+    true
+}
