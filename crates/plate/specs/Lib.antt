@@ -13,3 +13,5 @@ pub mod RangeLaws
 pub mod Columns
 pub mod RoundTrip
 pub mod RowTrip
+pub mod Reading
+pub mod ReadingLaws
