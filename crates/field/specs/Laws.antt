@@ -253,7 +253,8 @@ written-reads text at x h k =
     ∙ ap (λ (l : List ℕ). fieldAt l 0) (drop-at (take at text) (numberText x ++ drop (at + 5) text) at (length-take-le at text (omega arith)))
     ∙ field-begins x (drop (at + 5) text) k
 
-five-splits : (text : List ℕ) (at : ℕ) → at + 5 ≤ length text → drop at text ≡ five text at ++ drop (at + 5) text
+-- the five bytes from `at` stand there
+pub five-splits : (text : List ℕ) (at : ℕ) → at + 5 ≤ length text → drop at text ≡ five text at ++ drop (at + 5) text
 unfolding five
 five-splits text at h =
     simp towards-suc

@@ -7,3 +7,11 @@ pub mod FirstBad
 pub mod Exact
 pub mod Read
 pub mod ReadLaws
+pub mod Entries
+pub mod Range
+pub mod RangeLaws
+pub mod Columns
+pub mod RoundTrip
+pub mod RowTrip
+pub mod Reading
+pub mod ReadingLaws

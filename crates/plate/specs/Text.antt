@@ -1,15 +1,14 @@
 -- The plate's text (document 01, "The plate"): what a field of it reads as, the five bytes of each entry, the lines, and the
 -- whole plate of a header and three columns. Columns hold values, where `ever` stands for the text `ever` or `-`.
-use Prim.Native.Nat.{ℕ, zero, suc, _+_, _*_}
-use mathlib.Core.Bool.{Bool, true, false, cond, _&&_}
+use Prim.Native.Nat.{ℕ, zero, suc}
+use mathlib.Core.Bool.{Bool, true, false, cond}
 use mathlib.Core.List.{List, [], _∷_, _++_}
-use lib.ListN.{getD}
 use lib.Seq.{sets}
 use lib.Dec.{eqb}
 use Rattle.field.specs.Text.{fieldOf, five, numberText}
 use Rattle.field.specs.declared.Field.{Field}
 use Rattle.field.specs.declared.Field.the-variants.{Number as Digits, Bad as Wrong}
-use Rattle.game.specs.Value.{Value, fin, ever, numberOf, valueOf}
+use Rattle.game.specs.Value.{Value, fin, ever, valueOf}
 use Rattle.plate.specs.declared.Entry.{Entry}
 use Rattle.plate.specs.declared.Entry.the-variants.{Number, Dash, Ever, Bad}
 use Rattle.value.specs.declared.summary.Summary.{Summary}
