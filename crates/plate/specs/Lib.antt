@@ -15,3 +15,6 @@ pub mod RoundTrip
 pub mod RowTrip
 pub mod Reading
 pub mod ReadingLaws
+pub mod Writing
+pub mod WritingLaws
+pub mod JobLaws
