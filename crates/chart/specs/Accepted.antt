@@ -4,15 +4,15 @@ use Prim.Native.Nat.{ℕ, zero, suc, _+_, _-_, _≤_, _<_}
 use native.Mathlib.Omega.{arith}
 use native.Mathlib.Nat.{le-trans}
 use mathlib.Core.Path.{_≡_, refl, sym, ap, _∙_, subst}
-use mathlib.Core.Logic.{_⊎_, inl, inr, ⊎-elim}
+use mathlib.Core.Logic.{inl, inr, ⊎-elim}
 use mathlib.Core.Bool.{Bool, true, false, cond}
 use mathlib.Core.List.{List, [], _∷_, List·Memᴰ, List·Memᴰ·cases-cons, List·Memᴰ·not-nil, Memᴰ·cast}
 use mathlib.Core.List.List·Memᴰ.{List·Memᴰ·head, List·Memᴰ·tail}
 use lib.ListN.{length, getD}
 use lib.Dec.{T, ltb, eqb}
-use borrow.Author.Tests.{ltb-true, ltb-false, eqb-true, eqb-false, ne-eqb, eq-eqb}
-use Rattle.game.specs.Arena.{Arena, Position, Move, Owner, controller, environment, size, ownerAt, positionAt, moveAt, noMove, meantMove, disturbanceMove, Meant, Disturbance, mayBeDisturbed, WellFormed}
-use Rattle.chart.specs.Text.{letterAt, markAt, numberOf, positionsOf, movesOf, fromAt, toAt}
+use borrow.Author.Tests.{ltb-true, ltb-false, eqb-true, ne-eqb}
+use Rattle.game.specs.Arena.{Arena, Position, Move, size, moveAt, noMove, meantMove, disturbanceMove, Meant, mayBeDisturbed, WellFormed}
+use Rattle.chart.specs.Text.{letterAt, positionsOf, movesOf, fromAt, toAt}
 use Rattle.chart.specs.Meaning.{ownerOf, costOf, positionOn, moveOn, arenaOf, Rises, Chartable}
 use Rattle.chart.specs.Examined.{above, rises, meantLine, meantIn, examined}
 use Rattle.chart.specs.Good.{GoodChart, accepted-good}
@@ -52,7 +52,7 @@ unfolding rises moveOn
 line-rises text i h = above-rises (moveOn text (i - 1)) (moveOn text i) h
 
 -- a position with a flagged meant move has a line with one
-meant-line : (text : List ℕ) (n m v : ℕ) → meantIn text n m v ≡ true → (j : ℕ) × (j < m) × (letterAt text (n + 1 + j) ≡ 77) × (fromAt text (n + 1 + j) ≡ v)
+pub meant-line : (text : List ℕ) (n m v : ℕ) → meantIn text n m v ≡ true → (j : ℕ) × (j < m) × (letterAt text (n + 1 + j) ≡ 77) × (fromAt text (n + 1 + j) ≡ v)
 unfolding meantIn meantLine
 meant-line text n zero v h = let y : _≡_ {A = ℕ} 0 1 = cc in absurd (omega arith)
 meant-line text n (suc m) v h = go (meantIn text n m v) (eqb (letterAt text (n + 1 + m)) 77) refl refl (meant-line text n m v)

@@ -1,14 +1,14 @@
 -- What an accepted text is, line by line: the facts that its examination found, from which its arena is well-formed and its
 -- bytes are those of the arena's text.
-use Prim.Native.Nat.{ℕ, zero, suc, _+_, _-_, _*_, _%_, _≤_, _<_}
+use Prim.Native.Nat.{ℕ, _+_, _-_, _%_, _≤_, _<_}
 use native.Mathlib.Omega.{arith}
-use mathlib.Core.Path.{_≡_, refl, sym, ap, _∙_, subst}
-use mathlib.Core.Logic.{_⊎_, inl, inr, ⊎-elim}
-use mathlib.Core.Bool.{Bool, true, false, cond}
+use mathlib.Core.Path.{_≡_, refl, sym, _∙_, subst}
+use mathlib.Core.Logic.{_⊎_, inl, inr}
+use mathlib.Core.Bool.{Bool, true, false}
 use mathlib.Core.List.{List}
 use lib.ListN.{length}
 use lib.Dec.{ltb, leb, eqb}
-use borrow.Author.Tests.{ltb-true, ltb-false, leb-true, leb-false, eqb-true, eqb-false, le-leb, lt-leb}
+use borrow.Author.Tests.{ltb-false, leb-false, eqb-true, eqb-false, le-leb, lt-leb}
 use Rattle.field.specs.declared.Field.{Field}
 use Rattle.field.specs.declared.Field.the-variants.{Number, Bad}
 use Rattle.chart.specs.Text.{letterAt, firstAt, secondAt, endAt, markAt, numberOf, isNumber, positionsOf, movesOf, fromAt, toAt}
@@ -17,7 +17,6 @@ use Rattle.chart.specs.First.{first-clean}
 use Rattle.chart.specs.Header.{WithinLimits, header-accepts}
 use Rattle.chart.specs.declared.Chart.{Chart}
 use Rattle.chart.specs.declared.Refusal.{Refusal}
-use Rattle.chart.specs.declared.Refusal.the-variants.{Length, Form, Limits, Count, Sequence, Endpoint, Disturbed, Order, NoMeant}
 use Rattle.chart.specs.declared.Finding.{Finding}
 use Rattle.chart.specs.declared.Finding.the-variants.{Clean, Fault}
 use Rattle.chart.specs.declared.Examination.{Examination}
@@ -85,15 +84,15 @@ formed-true c f g e a b h = go (eqb c a) (eqb c b) refl refl
 faulty : {A : Type 0} (r : Refusal) → Fault r ≡ Clean → A
 faulty r e = let z : _≡_ {A = ℕ} 0 1 = cc in absurd (omega arith)
 
-position-form : (text : List ℕ) (i : ℕ) → positionFormed text i ≡ true → Formed (letterAt text i) (firstAt text i) (markAt text i) (endAt text i) 79 76
+pub position-form : (text : List ℕ) (i : ℕ) → positionFormed text i ≡ true → Formed (letterAt text i) (firstAt text i) (markAt text i) (endAt text i) 79 76
 unfolding positionFormed
 position-form text i h = formed-true (letterAt text i) (firstAt text i) (markAt text i) (endAt text i) 79 76 h
 
-move-form : (text : List ℕ) (i : ℕ) → moveFormed text i ≡ true → Formed (letterAt text i) (firstAt text i) (secondAt text i) (endAt text i) 77 68
+pub move-form : (text : List ℕ) (i : ℕ) → moveFormed text i ≡ true → Formed (letterAt text i) (firstAt text i) (secondAt text i) (endAt text i) 77 68
 unfolding moveFormed
 move-form text i h = formed-true (letterAt text i) (firstAt text i) (secondAt text i) (endAt text i) 77 68 h
 
-header-form : (text : List ℕ) → headerFormed text ≡ true → Formed (letterAt text 0) (firstAt text 0) (secondAt text 0) (endAt text 0) 72 72
+pub header-form : (text : List ℕ) → headerFormed text ≡ true → Formed (letterAt text 0) (firstAt text 0) (secondAt text 0) (endAt text 0) 72 72
 unfolding headerFormed
 header-form text h = formed-true (letterAt text 0) (firstAt text 0) (secondAt text 0) (endAt text 0) 72 72 h
 
@@ -156,11 +155,11 @@ move-clean text n i h =
     record { form = move-form text i (w .form); from-position = w .from-position; to-position = w .to-position; owner = w .owned; above = w .above }
 
 -- a line after the header is a position or a move
-line-position : (text : List ℕ) (n i : ℕ) → i ≤ n → lineFinding text n i ≡ positionFinding text i
+pub line-position : (text : List ℕ) (n i : ℕ) → i ≤ n → lineFinding text n i ≡ positionFinding text i
 unfolding lineFinding
 line-position text n i h = simp (le-leb i n h)
 
-line-move : (text : List ℕ) (n i : ℕ) → n < i → lineFinding text n i ≡ moveFinding text n i
+pub line-move : (text : List ℕ) (n i : ℕ) → n < i → lineFinding text n i ≡ moveFinding text n i
 unfolding lineFinding
 line-move text n i h = simp (lt-leb i n h)
 
@@ -170,7 +169,7 @@ answer-accepts chart got Clean Clean h = (refl, refl, cc)
 answer-accepts chart got Clean (Fault r) h = let z : _≡_ {A = ℕ} 0 1 = cc in absurd (omega arith)
 answer-accepts chart got (Fault r) e h = let z : _≡_ {A = ℕ} 0 1 = cc in absurd (omega arith)
 
-missing-clean : (text : List ℕ) (n m v : ℕ) → missingAt text n m v ≡ Clean → meantIn text n m v ≡ true
+pub missing-clean : (text : List ℕ) (n m v : ℕ) → missingAt text n m v ≡ Clean → meantIn text n m v ≡ true
 unfolding missingAt
 missing-clean text n m v h = go (meantIn text n m v) refl
   where

@@ -10,3 +10,8 @@ pub mod Good
 pub mod Loaded
 pub mod Filled
 pub mod Accepted
+pub mod Refusals
+pub mod LineExact
+pub mod Exact
+pub mod Lines
+pub mod Faithful

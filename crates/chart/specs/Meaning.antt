@@ -46,20 +46,24 @@ arenaOf text = record {
 
 -- one line: "one letter, two fields of five bytes, a line feed (byte 10)"
 unfoldable pub lineText : ℕ → ℕ → ℕ → List ℕ
-lineText letter first second = letter ∷ numberText first ++ numberText second ++ (10 ∷ [])
+lineText letter first second = letter ∷ (numberText first ++ (numberText second ++ (10 ∷ [])))
 
--- the position lines, numbered from v
-unfoldable pub positionsText : ℕ → List Position → List ℕ
-positionsText v [] = []
-positionsText v (p ∷ ps) = lineText (ownerLetter (p .owner)) v (p .mark) ++ positionsText (v + 1) ps
+-- the line of position v, and of a move
+unfoldable pub positionText : ℕ → Position → List ℕ
+positionText v p = lineText (ownerLetter (p .owner)) v (p .mark)
 
-unfoldable pub movesText : List Move → List ℕ
-movesText [] = []
-movesText (m ∷ ms) = lineText (costLetter (m .cost)) (m .from) (m .to) ++ movesText ms
+unfoldable pub moveText : ℕ → Move → List ℕ
+moveText i m = lineText (costLetter (m .cost)) (m .from) (m .to)
+
+-- the lines of a list, numbered from i
+unfoldable pub linesText : {A : Type 0} → (ℕ → A → List ℕ) → ℕ → List A → List ℕ
+linesText f i [] = []
+linesText f i (x ∷ xs) = f i x ++ linesText f (i + 1) xs
 
 -- "First line: `H`, the count n of positions, the count m of moves", then the position lines and the move lines
 unfoldable pub chartText : Arena → List ℕ
-chartText a = lineText 72 (size a) (length (a .moves)) ++ (positionsText 0 (a .positions) ++ movesText (a .moves))
+chartText a =
+    lineText 72 (size a) (length (a .moves)) ++ (linesText positionText 0 (a .positions) ++ linesText moveText 0 (a .moves))
 
 -- "They rise strictly: by from, then M before D, then by to": b is above a
 unfoldable pub Rises : Move → Move → Type 0

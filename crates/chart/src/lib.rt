@@ -7,6 +7,7 @@ ghost use Prim.Native.Nat.{ℕ, _+_, _*_, _≤_, _<_};
 ghost use lib.ListN.{length, getD};
 ghost use Rattle.chart.specs.Text.{letterAt, markAt, fromAt, toAt, numberOf, isNumber};
 ghost use Rattle.chart.specs.Meaning.{ownerOf, costOf};
+ghost use Rattle.chart.specs.Refusals.{refusalNumber, refusalLine};
 ghost use Rattle.chart.specs.Rows.{ownerNumber};
 ghost use Rattle.chart.specs.Loaded.{PositionRows, MoveRows, LoadIs};
 ghost use Rattle.chart.specs.Examined.{numbered, formed, headerOf, limitsOf, positionFinding, judgedPosition, moveFinding, judgedMove, ordered, rises, above, lineFinding, firstOf, meantLine, meantIn, missingAt, unflaggedAt, afterHeader, examined};
@@ -41,6 +42,42 @@ pub enum Refusal {
     Disturbed(usize),
     Order(usize),
     NoMeant(usize),
+}
+
+impl Refusal {
+    // The number in document 01's table.
+    pub fn number(self) -> u32
+        ensures { λ r. ⌜ r ≡ refusalNumber self ⌝ }
+    {
+        match self {
+            Refusal::Length => 1,
+            Refusal::Form(_) => 2,
+            Refusal::Limits => 3,
+            Refusal::Count => 4,
+            Refusal::Sequence(_) => 5,
+            Refusal::Endpoint(_) => 6,
+            Refusal::Disturbed(_) => 7,
+            Refusal::Order(_) => 8,
+            Refusal::NoMeant(_) => 9,
+        }
+    }
+
+    // The line, counted from 0.
+    pub fn line(self) -> usize
+        ensures { λ r. ⌜ r ≡ refusalLine self ⌝ }
+    {
+        match self {
+            Refusal::Length => 0,
+            Refusal::Form(line) => line,
+            Refusal::Limits => 0,
+            Refusal::Count => 0,
+            Refusal::Sequence(line) => line,
+            Refusal::Endpoint(line) => line,
+            Refusal::Disturbed(line) => line,
+            Refusal::Order(line) => line,
+            Refusal::NoMeant(line) => line,
+        }
+    }
 }
 
 // What examining a text answers.

@@ -102,7 +102,7 @@ module _ (test : ℕ → Bool) (t : Table) (n k s : ℕ) (flags values steps val
 
 -- The flags
 
-bit-one : (b : Bool) → eqb (bit b) 1 ≡ b
+pub bit-one : (b : Bool) → eqb (bit b) 1 ≡ b
 bit-one true = refl
 bit-one false = refl
 
@@ -112,14 +112,14 @@ value-test k small unplaced = ne-eqb 65535 k (λ e. omega arith)
 value-test k small (placed j s) = refl
 
 module _ (a : Arena) (n m : ℕ) (owners costs froms tos : List ℕ) (d : Decoded a n m owners costs froms tos) where
-  from-inside : (j : ℕ) → j < m → moveAt a j .from < n
+  pub from-inside : (j : ℕ) → j < m → moveAt a j .from < n
   from-inside j l = rw (← d .positions) (d .well .from-position (moveAt a j) (at-member noMove (a .moves) j (rw (d .moves) l)))
 
   pub to-inside : (j : ℕ) → j < m → moveAt a j .to < n
   to-inside j l = rw (← d .positions) (d .well .to-position (moveAt a j) (at-member noMove (a .moves) j (rw (d .moves) l)))
 
   -- the lines that leave v with a property are the moves with it, if the property is false of moves that leave another
-  lines-of : (v : ℕ) (q : ℕ → Bool) (p : Move → Bool)
+  pub lines-of : (v : ℕ) (q : ℕ → Bool) (p : Move → Bool)
       → ((j : ℕ) → j < m → moveAt a j .from ≡ v → q j ≡ p (moveAt a j))
       → ((x : Move) → eqb (x .from) v ≡ false → p x ≡ false)
       → found (numberAt froms) q m v ≡ someMove p (a .moves)

@@ -11,3 +11,7 @@ pub mod Summarize
 pub mod SummarizeLaws
 pub mod Valuing
 pub mod ValuingLaws
+pub mod Weigh
+pub mod WeighLaws
+pub mod Weighing
+pub mod WeighingLaws

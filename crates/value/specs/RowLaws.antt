@@ -62,6 +62,16 @@ pub some-next : (p : ℕ → Bool) (i : ℕ) → someBelow p (i + 1) ≡ (someBe
 unfolding someBelow
 some-next p i = rw add-one
 
+-- one that passes is enough
+pub some-hit : (p : ℕ → Bool) (n v : ℕ) → v < n → p v ≡ true → someBelow p n ≡ true
+unfolding someBelow
+some-hit p zero v l e = absurd (omega arith)
+some-hit p (suc n) v l e = go (some-hit p n v) (ℕ-discrete v n)
+  where
+    go : (v < n → p v ≡ true → someBelow p n ≡ true) → Dec (v ≡ n) → (someBelow p n || p n) ≡ true
+    go rec (yes z) = rw (← z, e, or-true)
+    go rec (no z) = rw (rec (omega arith) e)
+
 -- before the first item
 pub marked-none : {n : ℕ} {at : ℕ → ℕ} {q : ℕ → Bool} {g : ℕ → Bool → ℕ} {row : List ℕ} → RowIs row n (λ v. g v false) → Marked n at q g 0 row
 unfolding found someBelow

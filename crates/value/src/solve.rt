@@ -145,7 +145,7 @@ fn flag_disturbed_by(
     }
 }
 
-fn flag_none(n: usize, flags: &mut [u8])
+pub fn flag_none(n: usize, flags: &mut [u8])
     requires { ⌜ n ≤ length (now flags) ⌝ }
     ensures { λ _. ⌜ Filled (now (flags .entry)) (now (flags .exit)) n (λ v. 0) ⌝ }
 {

@@ -1,0 +1,399 @@
+-- Texts and arenas mean each other (T2): an accepted text is the text of its arena, and every arena that is well-formed, within the
+-- limits, with marks 0 or 1 and strictly rising moves has a text that is accepted and means it. An accepted line has the bytes that
+-- set out what it says (specs/Lines.antt); a line of an arena's text reads as what was set out, so that no refusal applies.
+use Prim.Native.Nat.{ℕ, zero, suc, _+_, _-_, _*_, _≤_, _<_}
+use native.Mathlib.Omega.{arith}
+use native.Mathlib.Nat.{add-comm, add-zero}
+use mathlib.Core.Path.{_≡_, refl, sym, ap, ap₂, _∙_, subst, subst₂}
+use mathlib.Core.Logic.{_⊎_, inl, inr, ⊎-elim}
+use mathlib.Core.Bool.{Bool, true, false}
+use mathlib.Core.List.{List, [], _∷_, _++_, append-nil, Memᴰ·cast}
+use lib.ListN.{length, getD, drop, length-append, drop-of-length-le}
+use lib.Seq.{drop-append-add}
+use lib.Dec.{T, eqb, leb, eqb·suc-zero}
+use borrow.Author.Tests.{eqb-true, eqb-false, leb-true, leb-false}
+use Rattle.game.specs.Arena.{Arena, Position, Move, Owner, controller, environment, size, ownerAt, positionAt, moveAt, nowhere, noMove, meantMove, Disturbance, mayBeDisturbed}
+use Rattle.field.specs.declared.Field.{Field}
+use Rattle.field.specs.declared.Field.the-variants.{Number}
+use Rattle.chart.specs.Text.{letterAt, firstAt, secondAt, endAt, markAt, numberOf, positionsOf, movesOf, fromAt, toAt}
+use Rattle.chart.specs.Meaning.{ownerOf, ownerLetter, costOf, costLetter, positionOn, moveOn, onLines, arenaOf, lineText, positionText, moveText, linesText, chartText, Rises, Chartable}
+use Rattle.chart.specs.Examined.{examined}
+use Rattle.chart.specs.Good.{Formed, GoodPosition, GoodMove, GoodChart, accepted-good}
+use Rattle.chart.specs.Accepted.{member-at, at-member}
+use Rattle.chart.specs.Filled.{on-lines-length}
+use Rattle.chart.specs.Lines.{Reads, line-length, reads-line, line-reads, lines-text, lines-length, lines-at}
+use Rattle.chart.specs.Refusals.{PositionLine, MoveLine, Allowed, BadLength, BadForm, OutsideLimits, WrongCount, OutOfSequence, BadEndpoint, BadDisturbance, OutOfOrder, WithoutMeant, Applies}
+use Rattle.chart.specs.LineExact.{form-good}
+use Rattle.chart.specs.Exact.{accepted-exactly}
+use Rattle.chart.specs.declared.Refusal.{Refusal}
+use Rattle.chart.specs.declared.Refusal.the-variants.{Length, Form, Limits, Count, Sequence, Endpoint, Disturbed, Order, NoMeant}
+use Rattle.chart.specs.declared.Chart.{Chart}
+use Rattle.chart.specs.declared.Examination.the-variants.{Accepted}
+
+-- letters stand for owners and costs
+letter-owner : (letter : ℕ) → (letter ≡ 79) ⊎ (letter ≡ 76) → ownerLetter (ownerOf letter) ≡ letter
+unfolding ownerOf ownerLetter
+letter-owner letter = ⊎-elim (λ e. rw e) (λ e. rw e)
+
+letter-cost : (letter : ℕ) → (letter ≡ 77) ⊎ (letter ≡ 68) → costLetter (costOf letter) ≡ letter
+unfolding costOf costLetter
+letter-cost letter = ⊎-elim (λ e. rw e) (λ e. rw e)
+
+-- the bytes of an accepted position line and of an accepted move line
+position-bytes : (text : List ℕ) (v : ℕ) → (1 + v + 1) * 12 ≤ length text → GoodPosition text (1 + v) →
+    drop ((1 + v) * 12) text ≡ positionText (0 + v) (positionOn text (1 + v)) ++ drop ((1 + v + 1) * 12) text
+unfolding positionText positionOn fromAt markAt
+position-bytes text v h g =
+    let number : numberOf (firstAt text (1 + v)) ≡ 0 + v = g .in-order ∙ omega arith in
+    rw (letter-owner (letterAt text (1 + v)) (g .form .allowed))
+    (reads-line text (1 + v) (letterAt text (1 + v)) (0 + v) (numberOf (secondAt text (1 + v))) h
+    (record { letter-is = refl; first-is = g .form .first-number ∙ ap Number number; second-is = g .form .second-number; end-is = g .form .ends }))
+
+move-bytes : (text : List ℕ) (n i k : ℕ) → (i + 1) * 12 ≤ length text → GoodMove text n i → drop (i * 12) text ≡ moveText k (moveOn text i) ++ drop ((i + 1) * 12) text
+unfolding moveText moveOn fromAt toAt
+move-bytes text n i k h g =
+    rw (letter-cost (letterAt text i) (g .form .allowed))
+    (reads-line text i (letterAt text i) (fromAt text i) (toAt text i) h
+    (record { letter-is = refl; first-is = g .form .first-number; second-is = g .form .second-number; end-is = g .form .ends }))
+
+header-bytes : (text : List ℕ) → (0 + 1) * 12 ≤ length text → GoodChart text → text ≡ lineText 72 (positionsOf text) (movesOf text) ++ drop ((0 + 1) * 12) text
+unfolding positionsOf movesOf
+header-bytes text h g =
+    reads-line text 0 72 (positionsOf text) (movesOf text) h
+    (record { letter-is = ⊎-elim (λ e. e) (λ e. e) (g .form .allowed); first-is = g .form .first-number; second-is = g .form .second-number; end-is = g .form .ends })
+
+good-faithful : (text : List ℕ) → GoodChart text → chartText (arenaOf text) ≡ text
+unfolding chartText arenaOf
+good-faithful text g =
+    let n = positionsOf text in
+    let m = movesOf text in
+    let lines : length text ≡ (1 + n + m) * 12 = g .limits .lines in
+    let head = header-bytes text (omega arith) g in
+    let positions = lines-text positionText text (positionOn text) n 0 1 (λ k l. position-bytes text k (omega arith) (g .position (1 + k) (omega arith) (omega arith))) in
+    let moves = lines-text moveText text (moveOn text) m 0 (n + 1) (λ k l. move-bytes text n (n + 1 + k) (0 + k) (omega arith) (g .move (n + 1 + k) (omega arith) (omega arith))) in
+    let past : length text ≤ (n + 1 + m) * 12 = omega arith in
+    let end : drop ((n + 1 + m) * 12) text ≡ [] = drop-of-length-le text past in
+    let positionLines = linesText positionText 0 (onLines (positionOn text) n 1) in
+    let moveLines = linesText moveText 0 (onLines (moveOn text) m (n + 1)) in
+    let next : drop ((1 + n) * 12) text ≡ drop ((n + 1) * 12) text = ap (λ (k : ℕ). drop (k * 12) text) (add-comm 1 n) in
+    rw (on-lines-length (positionOn text) n 1, on-lines-length (moveOn text) m (n + 1))
+    (sym
+    (head
+    ∙ ap (λ (l : List ℕ). lineText 72 n m ++ l)
+    (positions ∙ ap (λ (l : List ℕ). positionLines ++ l) (next ∙ moves ∙ ap (λ (l : List ℕ). moveLines ++ l) end ∙ append-nil moveLines))))
+
+-- an accepted text is the text of its arena
+pub text-faithful : (text : List ℕ) (chart : Chart) → examined text ≡ Accepted chart → chartText (arenaOf text) ≡ text
+text-faithful text chart e = good-faithful text (accepted-good text chart e .0)
+
+-- owners and costs stand for letters
+owner-letter : (o : Owner) → ownerOf (ownerLetter o) ≡ o
+unfolding ownerOf ownerLetter
+owner-letter controller = refl
+owner-letter environment = refl
+
+cost-letter : (cost : ℕ) → cost < 2 → costOf (costLetter cost) ≡ cost
+unfolding costOf costLetter
+cost-letter zero h = refl
+cost-letter (suc zero) h = refl
+cost-letter (suc (suc cost)) h = absurd (omega arith)
+
+-- how the text of an arena reads, line by line
+pub record SetOut (a : Arena) (text : List ℕ) : Type 0 where
+  pub lines : length text ≡ (1 + size a + length (a .moves)) * 12
+  pub header : Reads text 0 72 (size a) (length (a .moves))
+  pub position : (v : ℕ) → v < size a → Reads text (v + 1) (ownerLetter (ownerAt a v)) v (positionAt a v .mark)
+  pub move : (i : ℕ) → i < length (a .moves) → Reads text (size a + 1 + i) (costLetter (moveAt a i .cost)) (moveAt a i .from) (moveAt a i .to)
+
+position-twelve : (i : ℕ) (p : Position) → length (positionText i p) ≡ 12
+unfolding positionText
+position-twelve i p = line-length (ownerLetter (p .owner)) i (p .mark)
+
+move-twelve : (i : ℕ) (m : Move) → length (moveText i m) ≡ 12
+unfolding moveText
+move-twelve i m = line-length (costLetter (m .cost)) (m .from) (m .to)
+
+module _ (a : Arena) (c : Chartable a) where
+  positionLines : List ℕ
+  positionLines = linesText positionText 0 (a .positions)
+
+  moveLines : List ℕ
+  moveLines = linesText moveText 0 (a .moves)
+
+  head : List ℕ
+  head = lineText 72 (size a) (length (a .moves))
+
+  text-parts : chartText a ≡ head ++ (positionLines ++ moveLines)
+  unfolding chartText head positionLines moveLines
+  text-parts = refl
+
+  head-length : length head ≡ 12
+  unfolding head
+  head-length = line-length 72 (size a) (length (a .moves))
+
+  positions-length : length positionLines ≡ size a * 12
+  unfolding positionLines
+  positions-length = lines-length positionText position-twelve (a .positions) 0
+
+  moves-length : length moveLines ≡ length (a .moves) * 12
+  unfolding moveLines
+  moves-length = lines-length moveText move-twelve (a .moves) 0
+
+  -- what follows the header, and what follows the positions
+  after-head : (k : ℕ) → drop ((k + 1) * 12) (chartText a) ≡ drop (k * 12) (positionLines ++ moveLines)
+  after-head k =
+      let e : (k + 1) * 12 ≡ length head + k * 12 = omega (arith, head-length) in
+      ap (λ (l : List ℕ). drop ((k + 1) * 12) l) text-parts
+      ∙ ap (λ (n : ℕ). drop n (head ++ (positionLines ++ moveLines))) e
+      ∙ drop-append-add head (positionLines ++ moveLines) (k * 12)
+
+  after-positions : (k : ℕ) → drop ((size a + 1 + k) * 12) (chartText a) ≡ drop (k * 12) moveLines
+  after-positions k =
+      let e : size a + 1 + k ≡ size a + k + 1 = omega arith in
+      let f : (size a + k) * 12 ≡ length positionLines + k * 12 = omega (arith, positions-length) in
+      ap (λ (n : ℕ). drop (n * 12) (chartText a)) e
+      ∙ after-head (size a + k)
+      ∙ ap (λ (n : ℕ). drop n (positionLines ++ moveLines)) f
+      ∙ drop-append-add positionLines moveLines (k * 12)
+
+  position-reads : (v : ℕ) → v < size a → Reads (chartText a) (v + 1) (ownerLetter (ownerAt a v)) v (positionAt a v .mark)
+  unfolding positionLines positionText
+  position-reads v h =
+      let w = lines-at positionText position-twelve (a .positions) 0 v nowhere moveLines h in
+      let e : 0 + v ≡ v = omega arith in
+      line-reads (chartText a) (v + 1) (ownerLetter (ownerAt a v)) v (positionAt a v .mark) (w .0) (omega (arith, c .few-positions)) (omega (arith, c .mark v h))
+      (after-head v ∙ w .1 ∙ ap (λ (n : ℕ). positionText n (positionAt a v) ++ w .0) e)
+
+  move-reads : (i : ℕ) → i < length (a .moves) → Reads (chartText a) (size a + 1 + i) (costLetter (moveAt a i .cost)) (moveAt a i .from) (moveAt a i .to)
+  unfolding moveLines moveText
+  move-reads i h =
+      let w = lines-at moveText move-twelve (a .moves) 0 i noMove [] h in
+      let member = at-member noMove (a .moves) i h in
+      line-reads (chartText a) (size a + 1 + i) (costLetter (moveAt a i .cost)) (moveAt a i .from) (moveAt a i .to) (w .0)
+      (omega (arith, c .well-formed .from-position (moveAt a i) member, c .few-positions)) (omega (arith, c .well-formed .to-position (moveAt a i) member, c .few-positions))
+      (after-positions i ∙ ap (λ (l : List ℕ). drop (i * 12) l) (sym (append-nil moveLines)) ∙ w .1)
+
+  set-out : SetOut a (chartText a)
+  unfolding head
+  set-out = record {
+    lines =
+        ap length text-parts ∙ length-append head (positionLines ++ moveLines)
+        ∙ omega (arith, head-length, length-append positionLines moveLines, positions-length, moves-length);
+    header =
+        line-reads (chartText a) 0 72 (size a) (length (a .moves)) (positionLines ++ moveLines) (omega (arith, c .few-positions)) (omega (arith, c .few-moves)) text-parts;
+    position = position-reads;
+    move = move-reads;
+  }
+
+owner-letters : (o : Owner) → (ownerLetter o ≡ 79) ⊎ (ownerLetter o ≡ 76)
+unfolding ownerLetter
+owner-letters controller = inl refl
+owner-letters environment = inr refl
+
+cost-letters : (cost : ℕ) → (costLetter cost ≡ 77) ⊎ (costLetter cost ≡ 68)
+unfolding costLetter
+cost-letters zero = inl refl
+cost-letters (suc cost) = inr (simp (eqb·suc-zero cost))
+
+number-again : (f : Field) (x : ℕ) → f ≡ Number x → (f ≡ Number (numberOf f)) × (numberOf f ≡ x)
+unfolding numberOf
+number-again f x e = (e ∙ ap (λ (g : Field). Number (numberOf g)) (sym e), ap numberOf e)
+
+reads-formed : (text : List ℕ) (i letter first second a b : ℕ) → Reads text i letter first second → (letter ≡ a) ⊎ (letter ≡ b) →
+    Formed (letterAt text i) (firstAt text i) (secondAt text i) (endAt text i) a b
+reads-formed text i letter first second a b r w = record {
+  allowed = ⊎-elim (λ e. inl (r .letter-is ∙ e)) (λ e. inr (r .letter-is ∙ e)) w;
+  first-number = number-again (firstAt text i) first (r .first-is) .0;
+  second-number = number-again (secondAt text i) second (r .second-is) .0;
+  ends = r .end-is;
+}
+
+disturbance-cost : (cost : ℕ) → cost < 2 → costLetter cost ≡ 68 → 1 ≡ cost
+unfolding costLetter
+disturbance-cost zero h e = absurd (omega arith)
+disturbance-cost (suc zero) h e = refl
+disturbance-cost (suc (suc cost)) h e = absurd (omega arith)
+
+environment-letter : (o : Owner) → ownerLetter o ≡ 76 → T (mayBeDisturbed o) → ⊥
+unfolding ownerLetter
+environment-letter controller e t = omega arith
+environment-letter environment e t = t
+
+on-lines-list : {A : Type 0} (f : ℕ → A) (xs : List A) (i : ℕ) (d : A) → ((k : ℕ) → k < length xs → f (i + k) ≡ getD xs k d) → onLines f (length xs) i ≡ xs
+unfolding onLines
+on-lines-list f [] i d h = refl
+on-lines-list f (x ∷ xs) i d h =
+    let here : f i ≡ x = ap f (sym (add-zero i)) ∙ h 0 (omega arith) in
+    ap₂ (λ y ys. y ∷ ys) here (on-lines-list f xs (i + 1) d (λ k l. ap f (shift i k) ∙ h (suc k) (omega arith)))
+  where
+    shift : (i k : ℕ) → i + 1 + k ≡ i + suc k
+    shift i k = omega arith
+
+module _ (a : Arena) (c : Chartable a) (text : List ℕ) (s : SetOut a text) where
+  counted : positionsOf text ≡ size a
+  unfolding positionsOf
+  counted = number-again (firstAt text 0) (size a) (s .header .first-is) .1
+
+  moved : movesOf text ≡ length (a .moves)
+  unfolding movesOf
+  moved = number-again (secondAt text 0) (length (a .moves)) (s .header .second-is) .1
+
+  -- the line of a position, and of a move
+  position-line : (i : ℕ) → PositionLine text i → (v : ℕ) × (v + 1 ≡ i) × (v < size a) × Reads text i (ownerLetter (ownerAt a v)) v (positionAt a v .mark)
+  position-line i p =
+      let e : i - 1 + 1 ≡ i = omega (arith, p .0) in
+      let h : i - 1 < size a = omega (arith, p .0, p .1, counted) in
+      (i - 1, e, h, subst (λ (k : ℕ). Reads text k (ownerLetter (ownerAt a (i - 1))) (i - 1) (positionAt a (i - 1) .mark)) e (s .position (i - 1) h))
+
+  move-line : (i : ℕ) → MoveLine text i →
+      (k : ℕ) × (size a + 1 + k ≡ i) × (k < length (a .moves)) × Reads text i (costLetter (moveAt a k .cost)) (moveAt a k .from) (moveAt a k .to)
+  move-line i p =
+      let k = i - (size a + 1) in
+      let e : size a + 1 + k ≡ i = omega (arith, p .0, counted) in
+      let h : k < length (a .moves) = omega (arith, p .0, p .1, counted, moved) in
+      (k, e, h, subst (λ (j : ℕ). Reads text j (costLetter (moveAt a k .cost)) (moveAt a k .from) (moveAt a k .to)) e (s .move k h))
+
+  -- so no refusal applies
+  length-fine : BadLength text → ⊥
+  unfolding BadLength
+  length-fine =
+      ⊎-elim (λ e. omega (arith, s .lines))
+      (⊎-elim (λ l. omega (arith, s .lines, c .few-positions, c .few-moves)) (λ no. no (omega (arith, s .lines))))
+
+  form-fine : (i : ℕ) → BadForm text i → ⊥
+  unfolding BadForm Allowed
+  form-fine i bad = go (eqb i 0) (leb i (positionsOf text)) refl refl
+    where
+      go : (x y : Bool) → eqb i 0 ≡ x → leb i (positionsOf text) ≡ y → ⊥
+      go true y u v =
+          let e : 0 ≡ i = sym (eqb-true i 0 u) in
+          let r = subst (λ (k : ℕ). Reads text k 72 (size a) (length (a .moves))) e (s .header) in
+          form-good text i 72 72 (inl (sym e, r .letter-is)) (reads-formed text i 72 (size a) (length (a .moves)) 72 72 r (inl refl)) bad
+      go false true u v =
+          let other : i ≡ 0 → ⊥ = eqb-false i 0 u in
+          let p : PositionLine text i = (omega arith, leb-true i (positionsOf text) v) in
+          let w = position-line i p in
+          let f = reads-formed text i _ _ _ 79 76 (w .3) (owner-letters (ownerAt a (w .0))) in
+          form-good text i 79 76 (inr (inl (p, f .allowed))) f bad
+      go false false u v =
+          let p : MoveLine text i = (leb-false i (positionsOf text) v, bad .0) in
+          let w = move-line i p in
+          let f = reads-formed text i _ _ _ 77 68 (w .3) (cost-letters (moveAt a (w .0) .cost)) in
+          form-good text i 77 68 (inr (inr (p, f .allowed))) f bad
+
+  limits-fine : OutsideLimits text → ⊥
+  unfolding OutsideLimits
+  limits-fine =
+      ⊎-elim (λ l. omega (arith, counted, c .some-position))
+      (⊎-elim (λ l. omega (arith, counted, c .few-positions)) (⊎-elim (λ l. omega (arith, moved, c .some-move)) (λ l. omega (arith, moved, c .few-moves))))
+
+  count-fine : WrongCount text → ⊥
+  unfolding WrongCount
+  count-fine wrong = wrong (omega (arith, s .lines, counted, moved))
+
+  sequence-fine : (i : ℕ) → OutOfSequence text i → ⊥
+  unfolding OutOfSequence fromAt markAt
+  sequence-fine i bad =
+      let w = position-line i (bad .0) in
+      let number = number-again (firstAt text i) (w .0) (w .3 .first-is) .1 in
+      let mark = number-again (secondAt text i) (positionAt a (w .0) .mark) (w .3 .second-is) .1 in
+      ⊎-elim (λ no. no (omega (arith, number, w .1))) (λ high. omega (arith, mark, c .mark (w .0) (w .2))) (bad .1)
+
+  -- the move on a line is the arena's
+  move-on : (k : ℕ) → k < length (a .moves) → moveOn text (size a + 1 + k) ≡ moveAt a k
+  unfolding moveOn fromAt toAt
+  move-on k h =
+      let r = s .move k h in
+      let i = size a + 1 + k in
+      let member = at-member noMove (a .moves) k h in
+      let cost : costOf (letterAt text i) ≡ moveAt a k .cost = ap costOf (r .letter-is) ∙ cost-letter (moveAt a k .cost) (c .well-formed .kind (moveAt a k) member) in
+      let from = number-again (firstAt text i) (moveAt a k .from) (r .first-is) .1 in
+      let to = number-again (secondAt text i) (moveAt a k .to) (r .second-is) .1 in
+      λ j. record { cost = cost j; from = from j; to = to j }
+
+  position-on : (v : ℕ) → v < size a → positionOn text (v + 1) ≡ positionAt a v
+  unfolding positionOn markAt
+  position-on v h =
+      let r = s .position v h in
+      let owner : ownerOf (letterAt text (v + 1)) ≡ ownerAt a v = ap ownerOf (r .letter-is) ∙ owner-letter (ownerAt a v) in
+      let mark = number-again (secondAt text (v + 1)) (positionAt a v .mark) (r .second-is) .1 in
+      λ j. record { owner = owner j; mark = mark j }
+
+  from-on : (k : ℕ) → k < length (a .moves) → fromAt text (size a + 1 + k) ≡ moveAt a k .from
+  unfolding moveOn
+  from-on k h = ap (λ (m : Move). m .from) (move-on k h)
+
+  endpoint-fine : (i : ℕ) → BadEndpoint text i → ⊥
+  unfolding BadEndpoint fromAt toAt
+  endpoint-fine i bad =
+      let w = move-line i (bad .0) in
+      let member = at-member noMove (a .moves) (w .0) (w .2) in
+      let from = number-again (firstAt text i) (moveAt a (w .0) .from) (w .3 .first-is) .1 in
+      let to = number-again (secondAt text i) (moveAt a (w .0) .to) (w .3 .second-is) .1 in
+      ⊎-elim (λ l. omega (arith, from, counted, c .well-formed .from-position (moveAt a (w .0)) member))
+      (λ l. omega (arith, to, counted, c .well-formed .to-position (moveAt a (w .0)) member)) (bad .1)
+
+  disturbed-fine : (i : ℕ) → BadDisturbance text i → ⊥
+  unfolding BadDisturbance fromAt
+  disturbed-fine i bad =
+      let w = move-line i (bad .0) in
+      let m = moveAt a (w .0) in
+      let member = at-member noMove (a .moves) (w .0) (w .2) in
+      let cost : 1 ≡ m .cost = disturbance-cost (m .cost) (c .well-formed .kind m member) (sym (w .3 .letter-is) ∙ bad .1 .0) in
+      let here : Disturbance a (m .from) (m .to) = Memᴰ·cast (λ j. record { cost = cost j; from = m .from; to = m .to }) member in
+      let from : fromAt text i ≡ m .from = number-again (firstAt text i) (m .from) (w .3 .first-is) .1 in
+      let owner = s .position (m .from) (c .well-formed .from-position m member) .letter-is in
+      environment-letter (ownerAt a (m .from)) (sym owner ∙ ap (λ (v : ℕ). letterAt text (v + 1)) (sym from) ∙ bad .1 .1) (c .well-formed .disturbed (m .from) (m .to) here)
+
+  order-fine : (i : ℕ) → OutOfOrder text i → ⊥
+  unfolding OutOfOrder
+  order-fine i bad =
+      let w = move-line (i - 1) (bad .1 .0) in
+      let k = w .0 in
+      let next : size a + 1 + (k + 1) ≡ i = omega (arith, w .1, bad .0 .0) in
+      let more : k + 1 < length (a .moves) = omega (arith, next, bad .0 .1, counted, moved) in
+      let one : moveAt a k ≡ moveOn text (i - 1) = sym (move-on k (w .2)) ∙ ap (moveOn text) (w .1) in
+      let two : moveAt a (k + 1) ≡ moveOn text i = sym (move-on (k + 1) more) ∙ ap (moveOn text) next in
+      bad .1 .1 (subst₂ Rises one two (c .rising k more))
+
+  meant-fine : (i : ℕ) → WithoutMeant text i → ⊥
+  unfolding WithoutMeant costLetter
+  meant-fine i bad =
+      let w = position-line i (bad .0) in
+      let target = c .well-formed .meant (w .0) (w .2) in
+      let at = member-at noMove (meantMove (w .0) (target .0)) (a .moves) (target .1) in
+      let line = size a + 1 + at .0 in
+      let letter = s .move (at .0) (at .1) .letter-is ∙ ap (λ (m : Move). costLetter (m .cost)) (at .2) in
+      let from : fromAt text line ≡ i - 1 = from-on (at .0) (at .1) ∙ ap (λ (m : Move). m .from) (at .2) ∙ omega (arith, w .1) in
+      bad .1 line (omega (arith, counted), omega (arith, counted, moved, at .1)) letter from
+
+  none-applies : (r : Refusal) → Applies text r → ⊥
+  none-applies Length w = length-fine w
+  none-applies (Form line) w = form-fine line w
+  none-applies Limits w = limits-fine w
+  none-applies Count w = count-fine w
+  none-applies (Sequence line) w = sequence-fine line w
+  none-applies (Endpoint line) w = endpoint-fine line w
+  none-applies (Disturbed line) w = disturbed-fine line w
+  none-applies (Order line) w = order-fine line w
+  none-applies (NoMeant line) w = meant-fine line w
+
+  means : arenaOf text ≡ a
+  unfolding arenaOf
+  means = λ j. record {
+    positions =
+        (ap (λ (n : ℕ). onLines (positionOn text) n 1) counted
+        ∙ on-lines-list (positionOn text) (a .positions) 1 nowhere (λ k l. ap (positionOn text) (add-comm 1 k) ∙ position-on k l)) j;
+    moves =
+        (ap₂ (λ (m n : ℕ). onLines (moveOn text) m (n + 1)) moved counted
+        ∙ on-lines-list (moveOn text) (a .moves) (size a + 1) noMove (λ k l. move-on k l)) j;
+  }
+
+-- every arena that has a chart: its text is accepted, with its counts, and means it
+pub arena-faithful : (a : Arena) → Chartable a →
+    (examined (chartText a) ≡ Accepted (record { positions = size a; moves = length (a .moves) })) × (arenaOf (chartText a) ≡ a)
+arena-faithful a c =
+    let s = set-out a c in
+    let counts : _≡_ {A = Chart} (record { positions = size a; moves = length (a .moves) }) (record { positions = positionsOf (chartText a); moves = movesOf (chartText a) }) =
+    λ j. record { positions = sym (counted a c (chartText a) s) j; moves = sym (moved a c (chartText a) s) j } in
+    (accepted-exactly (chartText a) (record { positions = size a; moves = length (a .moves) }) .1 (none-applies a c (chartText a) s, counts), means a c (chartText a) s)

@@ -1,0 +1,123 @@
+-- Refusals 1 to 9 of document 01's table: the number and the line of each, when each applies to a text, and their order. A
+-- condition of a line takes the line as read: what an earlier refusal would catch is left to it.
+use Prim.Native.Nat.{ℕ, _+_, _-_, _*_, _%_, _≤_, _<_}
+use mathlib.Core.Path.{_≡_}
+use mathlib.Core.Logic.{_⊎_}
+use mathlib.Core.List.{List}
+use lib.ListN.{length}
+use Rattle.field.specs.declared.Field.the-variants.{Bad}
+use Rattle.chart.specs.Text.{letterAt, firstAt, secondAt, endAt, markAt, numberOf, positionsOf, movesOf, fromAt, toAt}
+use Rattle.chart.specs.Meaning.{moveOn, Rises}
+use Rattle.chart.specs.declared.Refusal.{Refusal}
+use Rattle.chart.specs.declared.Refusal.the-variants.{Length, Form, Limits, Count, Sequence, Endpoint, Disturbed, Order, NoMeant}
+
+-- the table's column "No."
+abbrev pub refusalNumber : Refusal → ℕ
+refusalNumber Length = 1
+refusalNumber (Form line) = 2
+refusalNumber Limits = 3
+refusalNumber Count = 4
+refusalNumber (Sequence line) = 5
+refusalNumber (Endpoint line) = 6
+refusalNumber (Disturbed line) = 7
+refusalNumber (Order line) = 8
+refusalNumber (NoMeant line) = 9
+
+-- "A refusal gives a number and a line, counted from 0 in the chart"
+abbrev pub refusalLine : Refusal → ℕ
+refusalLine Length = 0
+refusalLine (Form line) = line
+refusalLine Limits = 0
+refusalLine Count = 0
+refusalLine (Sequence line) = line
+refusalLine (Endpoint line) = line
+refusalLine (Disturbed line) = line
+refusalLine (Order line) = line
+refusalLine (NoMeant line) = line
+
+-- lines 1 to n are positions, the m lines after them are moves
+abbrev pub PositionLine : List ℕ → ℕ → Type 0
+PositionLine text i = (1 ≤ i) × (i ≤ positionsOf text)
+
+abbrev pub MoveLine : List ℕ → ℕ → Type 0
+MoveLine text i = (positionsOf text < i) × (i ≤ positionsOf text + movesOf text)
+
+-- 1: "chart empty, over 55,308 bytes, or no multiple of 12"
+unfoldable pub BadLength : List ℕ → Type 0
+BadLength text = (length text ≡ 0) ⊎ ((55308 < length text) ⊎ (length text % 12 ≡ 0 → ⊥))
+
+-- the letters allowed at a line: `H` on line 0, `O` and `L` on a position line, `M` and `D` on a move line
+unfoldable pub Allowed : List ℕ → ℕ → ℕ → Type 0
+Allowed text i letter =
+    ((i ≡ 0) × (letter ≡ 72))
+    ⊎ ((PositionLine text i × ((letter ≡ 79) ⊎ (letter ≡ 76))) ⊎ (MoveLine text i × ((letter ≡ 77) ⊎ (letter ≡ 68))))
+
+-- 2: "letter not allowed at this line, bad field or no line feed"
+unfoldable pub BadForm : List ℕ → ℕ → Type 0
+BadForm text i =
+    (i ≤ positionsOf text + movesOf text)
+    × ((Allowed text i (letterAt text i) → ⊥) ⊎ ((firstAt text i ≡ Bad) ⊎ ((secondAt text i ≡ Bad) ⊎ (endAt text i ≡ 10 → ⊥))))
+
+-- 3: "n or m outside its limits"
+unfoldable pub OutsideLimits : List ℕ → Type 0
+OutsideLimits text = (positionsOf text < 1) ⊎ ((512 < positionsOf text) ⊎ ((movesOf text < 1) ⊎ (4096 < movesOf text)))
+
+-- 4: "not 1+n+m lines"
+unfoldable pub WrongCount : List ℕ → Type 0
+WrongCount text = length text ≡ (1 + positionsOf text + movesOf text) * 12 → ⊥
+
+-- 5: "position out of sequence, or mark above 1"
+unfoldable pub OutOfSequence : List ℕ → ℕ → Type 0
+OutOfSequence text i = PositionLine text i × ((fromAt text i ≡ i - 1 → ⊥) ⊎ (1 < numberOf (markAt text i)))
+
+-- 6: "a move names a position from n up"
+unfoldable pub BadEndpoint : List ℕ → ℕ → Type 0
+BadEndpoint text i = MoveLine text i × ((positionsOf text ≤ fromAt text i) ⊎ (positionsOf text ≤ toAt text i))
+
+-- 7: "a disturbance from L": position v stands on line v + 1
+unfoldable pub BadDisturbance : List ℕ → ℕ → Type 0
+BadDisturbance text i = MoveLine text i × ((letterAt text i ≡ 68) × (letterAt text (fromAt text i + 1) ≡ 76))
+
+-- 8: "a move not above the one before"
+unfoldable pub OutOfOrder : List ℕ → ℕ → Type 0
+OutOfOrder text i = MoveLine text i × (MoveLine text (i - 1) × (Rises (moveOn text (i - 1)) (moveOn text i) → ⊥))
+
+-- 9: "no meant move": none of the move lines is a meant move from the position on line i
+unfoldable pub WithoutMeant : List ℕ → ℕ → Type 0
+WithoutMeant text i = PositionLine text i × ((j : ℕ) → MoveLine text j → letterAt text j ≡ 77 → fromAt text j ≡ i - 1 → ⊥)
+
+-- the table's column "When"
+abbrev pub Applies : List ℕ → Refusal → Type 0
+Applies text Length = BadLength text
+Applies text (Form line) = BadForm text line
+Applies text Limits = OutsideLimits text
+Applies text Count = WrongCount text
+Applies text (Sequence line) = OutOfSequence text line
+Applies text (Endpoint line) = BadEndpoint text line
+Applies text (Disturbed line) = BadDisturbance text line
+Applies text (Order line) = OutOfOrder text line
+Applies text (NoMeant line) = WithoutMeant text line
+
+-- "Order: 1; then line by line ..; then 9"
+abbrev pub stage : Refusal → ℕ
+stage Length = 0
+stage (Form line) = 1
+stage Limits = 1
+stage Count = 1
+stage (Sequence line) = 1
+stage (Endpoint line) = 1
+stage (Disturbed line) = 1
+stage (Order line) = 1
+stage (NoMeant line) = 2
+
+-- by stage, then by line, then "2 before the rest, 3 before 4, and 6, 7, 8": by number
+abbrev pub Before : Refusal → Refusal → Type 0
+Before r s =
+    (stage r < stage s)
+    ⊎ ((stage r ≡ stage s)
+    × ((refusalLine r < refusalLine s) ⊎ ((refusalLine r ≡ refusalLine s) × (refusalNumber r < refusalNumber s))))
+
+-- r applies, and nothing before it in the order does
+pub record First (text : List ℕ) (r : Refusal) : Type 0 where
+  pub applies : Applies text r
+  pub none-before : (s : Refusal) → Before s r → Applies text s → ⊥
