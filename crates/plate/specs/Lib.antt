@@ -15,6 +15,4 @@ pub mod RoundTrip
 pub mod RowTrip
 pub mod Reading
 pub mod ReadingLaws
-pub mod Writing
-pub mod WritingLaws
-pub mod JobLaws
+pub mod ReadingTrip

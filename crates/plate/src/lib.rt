@@ -1,7 +1,6 @@
 // The plate's text (document 01, "The plate") at the level of rows: a header and three rows of numbers are set out as lines of
 // 22 bytes, and a plate of the form under 11 is read back into them. 65,535 stands for `ever` and `-` in the rows.
 pub mod reading;
-pub mod writing;
 
 ghost use mathlib.Core.Path.{_≡_};
 ghost use mathlib.Core.List.{[], _∷_, _++_};

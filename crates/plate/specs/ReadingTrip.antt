@@ -1,36 +1,27 @@
--- The two jobs together (T11): what Reading took is of the form, and set out again is the plate; the plate that Writing makes is taken,
--- and gives what Valuing gives.
+-- What Reading took (T11): the plate is of the form, the answer is its first line, and the rows, set out again, are the plate.
 use Prim.Native.Nat.{ℕ, _≤_}
 use native.Mathlib.Omega.{arith}
-use mathlib.Core.Path.{_≡_, refl, sym, ap, _∙_, subst}
+use mathlib.Core.Path.{_≡_, refl, sym, _∙_, subst}
 use mathlib.Core.Bool.{Bool, true, false, _&&_}
 use mathlib.Core.List.{List}
 use lib.ListN.{length}
 use lib.Dec.{leb}
-use Rattle.game.specs.Value.{numberOf}
 use Rattle.game.specs.Arena.{size}
-use Rattle.game.specs.Table.{roundValue, roundStep}
-use Rattle.game.specs.Best.{bestAt}
 use Rattle.chart.specs.Meaning.{arenaOf}
 use Rattle.chart.specs.Examined.{examined}
-use Rattle.chart.specs.Filled.{filled-same}
 use Rattle.chart.specs.Accepted.{accepted-size, accepted-chartable}
 use Rattle.chart.specs.declared.Chart.{Chart}
 use Rattle.chart.specs.declared.Examination.{Examination}
 use Rattle.chart.specs.declared.Examination.the-variants.{Accepted, Refused}
 use Rattle.value.specs.Summarize.{rowValue}
-use Rattle.value.specs.Valuing.{PlateRows}
 use Rattle.value.specs.declared.summary.Summary.{Summary}
 use Rattle.plate.specs.Text.{plateText}
 use Rattle.plate.specs.Form.{OfForm}
 use Rattle.plate.specs.Formed.{formOf}
 use Rattle.plate.specs.Exact.{form-exact}
 use Rattle.plate.specs.Read.{headerIn}
-use Rattle.plate.specs.RoundTrip.{ReadsAs, set-out-is-of-form, reading-undoes-writing}
 use Rattle.plate.specs.RowTrip.{rows-set-out}
 use Rattle.plate.specs.Reading.{answerTo, readBy, reading, ReadingIs}
-use Rattle.plate.specs.Writing.{headerOf, plateOf}
-use Rattle.plate.specs.WritingLaws.{arena-in-range}
 use Rattle.plate.specs.declared.Form.{Form}
 use Rattle.plate.specs.declared.Form.the-variants.{Good, Bad}
 use Rattle.plate.specs.declared.reading.Reading.{Reading}
@@ -82,42 +73,3 @@ reading-set-out text plate values values′ choices choices′ steps steps′ r 
     let w = reading-took text plate (length values) (length choices) (length steps) h (sym (is .answer) ∙ taken) in
     rows-set-out (size (arenaOf text)) (few text (w .chart) (w .accepted)) plate h values values′ choices choices′ steps steps′ (w .form)
     (record { header = w .header; rows = is .taken h taken })
-
-module _ (text : List ℕ) (chart : Chart) (accepted : examined text ≡ Accepted chart) where
-  -- the plate that Writing makes is of the form, and reads as the rounds and choices
-  pub written-is-of-form : OfForm (size (arenaOf text)) (plateOf (arenaOf text))
-  unfolding plateOf
-  written-is-of-form =
-      let small = few text chart accepted in
-      set-out-is-of-form _ _ _ _ _ small (arena-in-range (arenaOf text) (accepted-chartable text chart accepted .well-formed) small)
-
-  pub written-reads : ReadsAs (size (arenaOf text)) (plateOf (arenaOf text)) (headerOf (arenaOf text)) (roundValue (arenaOf text)) (bestAt (arenaOf text) (roundValue (arenaOf text))) (roundStep (arenaOf text))
-  unfolding plateOf
-  written-reads =
-      let small = few text chart accepted in
-      reading-undoes-writing _ _ _ _ _ small (arena-in-range (arenaOf text) (accepted-chartable text chart accepted .well-formed) small)
-
-  -- Reading takes it, given room
-  pub written-is-taken : (values choices steps : ℕ) → (leb (chart .positions) values && (leb (chart .positions) choices && leb (chart .positions) steps)) ≡ true →
-      reading text (plateOf (arenaOf text)) values choices steps ≡ Rows (headerOf (arenaOf text))
-  unfolding reading readBy answerTo
-  written-is-taken values choices steps room =
-      let good : formOf (chart .positions) (plateOf (arenaOf text)) ≡ Good =
-      subst (λ (n : ℕ). formOf n (plateOf (arenaOf text)) ≡ Good) (accepted-size text chart accepted) (form-exact (size (arenaOf text)) (plateOf (arenaOf text)) .1 written-is-of-form) in
-      rw (accepted, room, good) (ap Rows (written-reads .header))
-
--- T11: "from a plate that Writing made, they are what Valuing gives"
-pub reading-gives-valuing : (text values values′ choices choices′ steps steps′ : List ℕ) (r : Reading) (h : Summary) →
-    ReadingIs text (plateOf (arenaOf text)) values values′ choices choices′ steps steps′ r → r ≡ Rows h →
-    (h ≡ headerOf (arenaOf text)) × PlateRows (arenaOf text) (size (arenaOf text)) values values′ choices choices′ steps steps′
-reading-gives-valuing text values values′ choices choices′ steps steps′ r h is taken =
-    let w = reading-took text (plateOf (arenaOf text)) (length values) (length choices) (length steps) h (sym (is .answer) ∙ taken) in
-    let back = written-reads text (w .chart) (w .accepted) in
-    let rows = is .taken h taken in (
-      w .header ∙ back .header,
-      record {
-        value = filled-same _ _ _ _ _ _ refl (λ v l. ap numberOf (back .value-at v l)) (rows .value);
-        choice = filled-same _ _ _ _ _ _ refl (λ v l. ap numberOf (back .choice-at v l)) (rows .choice);
-        step = filled-same _ _ _ _ _ _ refl (λ v l. ap numberOf (back .step-at v l)) (rows .step);
-      },
-    )
