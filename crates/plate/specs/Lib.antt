@@ -15,3 +15,4 @@ pub mod RoundTrip
 pub mod RowTrip
 pub mod Reading
 pub mod ReadingLaws
+pub mod ReadingTrip
