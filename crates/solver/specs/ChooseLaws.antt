@@ -90,7 +90,7 @@ module _ {n m : ℕ} (owners : List ℕ) {costs froms tos : List ℕ} (values : 
       }
 
 -- comparing numbers is comparing values
-less-numbers : (x y : Value) → Fits x → Fits y → ltb (numberOf x) (numberOf y) ≡ ltV x y
+pub less-numbers : (x y : Value) → Fits x → Fits y → ltb (numberOf x) (numberOf y) ≡ ltV x y
 unfolding numberOf ltV
 less-numbers (fin j) (fin k) f g = refl
 less-numbers (fin j) ever f g = lt-ltb j 65535 f
