@@ -1,4 +1,4 @@
--- The table of refusals is exact (T2): a text is refused with r exactly when r applies to it and nothing before r in the order does,
+-- The table of refusals is exact: a text is refused with r exactly when r applies to it and nothing before r in the order does,
 -- and it is accepted, with the header's counts, exactly when nothing applies. The computed answer is the first: by the length, by
 -- the lines in order, each exact (specs/LineExact.antt), and by the positions in order. It is the only first, since the order
 -- leaves no two refusals apart that have the same stage, line and number.

@@ -1,4 +1,4 @@
--- Texts and arenas mean each other (T2): an accepted text is the text of its arena, and every arena that is well-formed, within the
+-- Texts and arenas mean each other: an accepted text is the text of its arena, and every arena that is well-formed, within the
 -- limits, with marks 0 or 1 and strictly rising moves has a text that is accepted and means it. An accepted line has the bytes that
 -- set out what it says (specs/Lines.antt); a line of an arena's text reads as what was set out, so that no refusal applies.
 use Prim.Native.Nat.{ℕ, zero, suc, _+_, _-_, _*_, _≤_, _<_}
