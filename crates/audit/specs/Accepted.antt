@@ -7,7 +7,7 @@ use Rattle.game.specs.Arena.{Arena, WellFormed, size}
 use Rattle.game.specs.Table.{roundStep}
 use Rattle.game.specs.Certified.{certificate-is-legal, certificate-gives-values, certificate-gives-worths}
 use Rattle.game.specs.RoundValues.{optimal-choices-with-round-steps-have-a-certificate}
-use Rattle.value.specs.declared.summary.Summary.{Summary}
+use Rattle.solver.specs.declared.summary.Summary.{Summary}
 use Rattle.audit.specs.Verdict.{HeaderIs, RightPlate, verdictOf}
 use Rattle.audit.specs.Exact.{sound-exactly}
 use Rattle.audit.specs.declared.rows.Verdict.the-variants.{Sound}

@@ -10,7 +10,7 @@ use Rattle.chart.specs.Examined.{examined}
 use Rattle.chart.specs.Refusals.{refusalNumber, refusalLine}
 use Rattle.chart.specs.declared.Examination.{Examination}
 use Rattle.chart.specs.declared.Examination.the-variants.{Accepted as Taken, Refused as Turned}
-use Rattle.value.specs.Held.{Decoded}
+use Rattle.solver.specs.Held.{Decoded}
 use Rattle.plate.specs.Formed.{formOf}
 use Rattle.plate.specs.Read.{headerIn, valueIn, choiceIn, stepIn}
 use Rattle.plate.specs.declared.Form.{Form as PlateForm}

@@ -14,9 +14,9 @@ use Rattle.chart.specs.Accepted.{accepted-chartable, accepted-moves, froms-rise
 use Rattle.chart.specs.declared.Chart.{Chart}
 use Rattle.chart.specs.declared.Refusal.{Refusal}
 use Rattle.chart.specs.declared.Examination.the-variants.{Accepted as Taken, Refused as Turned}
-use Rattle.value.specs.Held.{Decoded}
-use Rattle.value.specs.Summarize.{rowValue}
-use Rattle.value.specs.declared.summary.Summary.{Summary}
+use Rattle.solver.specs.Held.{Decoded}
+use Rattle.solver.specs.Summarize.{rowValue}
+use Rattle.solver.specs.declared.summary.Summary.{Summary}
 use Rattle.plate.specs.Form.{OfForm}
 use Rattle.plate.specs.Formed.{formOf}
 use Rattle.plate.specs.Exact.{form-exact}

@@ -14,7 +14,7 @@ use Rattle.game.specs.Fault.{faultAt}
 use Rattle.game.specs.FaultLaws.{fault-exactly, no-fault-exactly}
 use Rattle.game.specs.MoveTests.{and-left, and-right, and-both, is-true, is-false, passes-or-fails}
 use Rattle.game.specs.Summary.{pairCount, highest, everCount}
-use Rattle.value.specs.declared.summary.Summary.{Summary}
+use Rattle.solver.specs.declared.summary.Summary.{Summary}
 use Rattle.audit.specs.Verdict.{FirstFaultIs, HeaderIs, atHeader, atPosition, firstFrom, headerRight, headerVerdict, verdictOf}
 use Rattle.audit.specs.VerdictLaws.{first-fault, first-or-none, no-fault}
 use Rattle.audit.specs.declared.rows.Verdict.{Verdict}

@@ -9,7 +9,7 @@ use lib.Dec.{T, eqb, ltb, leb}
 use borrow.Author.Tests.{eq-eqb, ne-eqb, lt-ltb, le-ltb, le-leb, lt-leb}
 use Rattle.game.specs.Value.{Value, fin, ever, leV, ltV, eqV, _⊕_, valueOf}
 use Rattle.game.specs.ValueLaws.{Fits, lessOne, at-least-less-one, smaller, leV-sound, ltV-sound, number-of-value}
-use Rattle.value.specs.ChooseLaws.{less-numbers}
+use Rattle.solver.specs.ChooseLaws.{less-numbers}
 use Rattle.audit.specs.Position.{lessOneNumber}
 
 -- two tests that pass together are the same

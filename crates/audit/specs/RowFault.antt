@@ -16,8 +16,8 @@ use Rattle.game.specs.Play.{disturbanceCost, targetOf}
 use Rattle.game.specs.Table.{someMove, everyMove, meantFrom, disturbanceFrom}
 use Rattle.game.specs.Fault.{earlier, unsafeZero, dashed, legalAs, holdsAs, ruinedAs, ruined, faultAt}
 use Rattle.chart.specs.Rows.{RowIs, ownerNumber}
-use Rattle.value.specs.Held.{Decoded}
-use Rattle.value.specs.SummarizeLaws.{ever-number, same-values}
+use Rattle.solver.specs.Held.{Decoded}
+use Rattle.solver.specs.SummarizeLaws.{ever-number, same-values}
 use Rattle.audit.specs.Position.{afterMoves, beforeMoves}
 use Rattle.audit.specs.Sheet.{Formed, Sheet, choiceAt, rowFault, seenBelow, someShows, stepAt, valueAt}
 use Rattle.audit.specs.Numbers.{finite-number, smaller-by-one}

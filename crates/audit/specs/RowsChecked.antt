@@ -3,8 +3,8 @@ use Prim.Native.Nat.{ℕ}
 use mathlib.Core.Path.{_≡_}
 use Rattle.game.specs.Arena.{Arena, positionAt}
 use Rattle.chart.specs.Rows.{RowIs}
-use Rattle.value.specs.Held.{Decoded}
-use Rattle.value.specs.declared.summary.Summary.{Summary}
+use Rattle.solver.specs.Held.{Decoded}
+use Rattle.solver.specs.declared.summary.Summary.{Summary}
 use Rattle.audit.specs.Verdict.{verdictOf}
 use Rattle.audit.specs.Sheet.{Sheet, choiceAt, stepAt, valueAt}
 use Rattle.audit.specs.declared.rows.Verdict.{Verdict}

@@ -10,9 +10,9 @@ use borrow.Author.Tests.{eq-eqb, ne-eqb}
 use Rattle.game.specs.Arena.{Arena, positionAt}
 use Rattle.game.specs.Fault.{faultAt}
 use Rattle.chart.specs.Rows.{RowIs}
-use Rattle.value.specs.Held.{Decoded}
-use Rattle.value.specs.Summarize.{PairsFit}
-use Rattle.value.specs.declared.summary.Summary.{Summary}
+use Rattle.solver.specs.Held.{Decoded}
+use Rattle.solver.specs.Summarize.{PairsFit}
+use Rattle.solver.specs.declared.summary.Summary.{Summary}
 use Rattle.audit.specs.Position.{beforeMoves, isUnsafe}
 use Rattle.audit.specs.Sheet.{Formed, Sheet, choiceAt, lineAt, rowFault, stepAt, valueAt}
 use Rattle.audit.specs.Verdict.{firstFrom, headerVerdict, verdictOf}

@@ -8,8 +8,8 @@ use mathlib.Core.List.{List}
 use lib.ListN.{length, getD}
 use lib.Dec.{eqb}
 use Rattle.game.specs.Value.{Value}
-use Rattle.value.specs.RowLaws.{found, numberAt}
-use Rattle.value.specs.Summarize.{rowValue}
+use Rattle.solver.specs.RowLaws.{found, numberAt}
+use Rattle.solver.specs.Summarize.{rowValue}
 use Rattle.audit.specs.Position.{afterMoves, beforeMoves, shown}
 use Rattle.audit.specs.declared.position.Line.{Line}
 use Rattle.audit.specs.declared.position.Target.{Target}

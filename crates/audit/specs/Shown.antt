@@ -15,9 +15,9 @@ use Rattle.game.specs.Table.{someMove}
 use Rattle.game.specs.Fault.{earlier}
 use Rattle.chart.specs.Rows.{ownerNumber}
 use Rattle.chart.specs.Accepted.{at-member}
-use Rattle.value.specs.Held.{Decoded}
-use Rattle.value.specs.HeldLaws.{lines-of, to-inside}
-use Rattle.value.specs.SummarizeLaws.{same-values}
+use Rattle.solver.specs.Held.{Decoded}
+use Rattle.solver.specs.HeldLaws.{lines-of, to-inside}
+use Rattle.solver.specs.SummarizeLaws.{same-values}
 use Rattle.audit.specs.Position.{isController, shown, shownMeant, shownDisturbance, earlierTarget}
 use Rattle.audit.specs.Sheet.{Formed, Sheet, choiceAt, lineAt, someShows, stepAt, targetAt, valueAt}
 use Rattle.audit.specs.Numbers.{below-less-one, below-number, finite-number, smaller-number}

@@ -12,7 +12,7 @@ use Rattle.game.specs.Fault.{faultAt}
 use Rattle.game.specs.FirstFault.{FirstFault}
 use Rattle.game.specs.Optimal.{RightValues, WorthsAre}
 use Rattle.game.specs.Summary.{pairCount, highest, everCount}
-use Rattle.value.specs.declared.summary.Summary.{Summary}
+use Rattle.solver.specs.declared.summary.Summary.{Summary}
 use Rattle.audit.specs.declared.rows.Verdict.{Verdict}
 use Rattle.audit.specs.declared.rows.Verdict.the-variants.{Sound, Fault}
 

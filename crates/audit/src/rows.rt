@@ -2,8 +2,8 @@
 ghost use mathlib.Core.Path.{_≡_};
 ghost use Prim.Native.Nat.{_≤_, _<_};
 ghost use lib.ListN.{length, getD};
-ghost use Rattle.value.specs.Solve.{Within};
-ghost use Rattle.value.specs.Summarize.{PairsFit, rowValue};
+ghost use Rattle.solver.specs.Solve.{Within};
+ghost use Rattle.solver.specs.Summarize.{PairsFit, rowValue};
 ghost use Rattle.value.specs.Valuing.{Decodable};
 ghost use Rattle.audit.specs.Sheet.{Ascending, Formed, Sized, lineOf, rowFault, sheet, targetOf};
 ghost use Rattle.audit.specs.Verdict.{firstFrom, headerVerdict};
@@ -14,8 +14,8 @@ use crate::position::Target;
 use crate::position::after_moves;
 use crate::position::before_moves;
 use crate::position::see;
-use value::summary::Summary;
-use value::summary::summarize;
+use solver::summary::Summary;
+use solver::summary::summarize;
 
 // No fault, or the first one's position and condition.
 pub enum Verdict {

@@ -4,15 +4,15 @@ use Prim.Native.Nat.{ℕ, zero, suc, _+_, _-_, _≤_, _<_}
 use native.Mathlib.Omega.{arith}
 use native.Mathlib.Nat.{le-trans}
 use mathlib.Core.Path.{_≡_, refl, sym, ap, _∙_, subst}
-use mathlib.Core.Logic.{_⊎_, inl, inr, ⊎-elim}
+use mathlib.Core.Logic.{inl, inr, ⊎-elim}
 use mathlib.Core.Bool.{Bool, true, false, cond}
 use mathlib.Core.List.{List, [], _∷_, List·Memᴰ, List·Memᴰ·cases-cons, List·Memᴰ·not-nil, Memᴰ·cast}
 use mathlib.Core.List.List·Memᴰ.{List·Memᴰ·head, List·Memᴰ·tail}
 use lib.ListN.{length, getD}
 use lib.Dec.{T, ltb, eqb}
-use borrow.Author.Tests.{ltb-true, ltb-false, eqb-true, eqb-false, ne-eqb, eq-eqb}
-use Rattle.game.specs.Arena.{Arena, Position, Move, Owner, controller, environment, size, ownerAt, positionAt, moveAt, noMove, meantMove, disturbanceMove, Meant, Disturbance, mayBeDisturbed, WellFormed}
-use Rattle.chart.specs.Text.{letterAt, markAt, numberOf, positionsOf, movesOf, fromAt, toAt}
+use borrow.Author.Tests.{ltb-true, ltb-false, eqb-true, ne-eqb}
+use Rattle.game.specs.Arena.{Arena, Position, Move, size, moveAt, noMove, meantMove, disturbanceMove, Meant, mayBeDisturbed, WellFormed}
+use Rattle.chart.specs.Text.{letterAt, positionsOf, movesOf, fromAt, toAt}
 use Rattle.chart.specs.Meaning.{ownerOf, costOf, positionOn, moveOn, arenaOf, Rises, Chartable}
 use Rattle.chart.specs.Examined.{above, rises, meantLine, meantIn, examined}
 use Rattle.chart.specs.Good.{GoodChart, accepted-good}

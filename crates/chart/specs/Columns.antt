@@ -1,7 +1,7 @@
 -- Laws of a line's columns: a field's number is at most 99,999.
 use Prim.Native.Nat.{ℕ, _+_, _*_, _≤_}
 use native.Mathlib.Omega.{arith}
-use mathlib.Core.Path.{_≡_, refl, subst}
+use mathlib.Core.Path.{_≡_, refl}
 use mathlib.Core.List.{List}
 use Rattle.field.specs.Text.{fieldAt, five}
 use Rattle.field.specs.Laws.{reads-number}

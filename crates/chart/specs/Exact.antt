@@ -1,8 +1,8 @@
--- The table of refusals is exact (T2): a text is refused with r exactly when r applies to it and nothing before r in the order does,
+-- The table of refusals is exact: a text is refused with r exactly when r applies to it and nothing before r in the order does,
 -- and it is accepted, with the header's counts, exactly when nothing applies. The computed answer is the first: by the length, by
 -- the lines in order, each exact (specs/LineExact.antt), and by the positions in order. It is the only first, since the order
 -- leaves no two refusals apart that have the same stage, line and number.
-use Prim.Native.Nat.{ℕ, zero, suc, _+_, _-_, _*_, _%_, _≤_, _<_}
+use Prim.Native.Nat.{ℕ, zero, suc, _+_, _-_, _%_, _≤_, _<_}
 use native.Mathlib.Omega.{arith}
 use native.Mathlib.Nat.{eq-or-lt-of-le, le-of-suc-le-suc}
 use mathlib.Core.Path.{_≡_, refl, sym, ap, ap₂, _∙_, subst}
@@ -10,16 +10,16 @@ use mathlib.Core.Logic.{_⊎_, inl, inr, ⊎-elim, _↔_}
 use mathlib.Core.Bool.{Bool, true, false, cond}
 use mathlib.Core.List.{List}
 use lib.ListN.{length}
-use lib.Dec.{ltb, leb, eqb}
+use lib.Dec.{ltb, eqb}
 use borrow.Author.Tests.{ltb-true, ltb-false, eqb-true, eqb-false, eq-eqb}
 use Rattle.chart.specs.Text.{letterAt, positionsOf, movesOf, fromAt}
-use Rattle.chart.specs.Refusals.{refusalNumber, refusalLine, stage, PositionLine, MoveLine, BadLength, BadForm, OutOfSequence, BadEndpoint, BadDisturbance, OutOfOrder, WithoutMeant, Applies, Before, First}
+use Rattle.chart.specs.Refusals.{refusalNumber, refusalLine, stage, PositionLine, BadLength, BadForm, OutOfSequence, BadEndpoint, BadDisturbance, OutOfOrder, WithoutMeant, Applies, Before, First}
 use Rattle.chart.specs.Examined.{headerOf, lineFinding, orElse, firstOf, meantLine, meantIn, missingAt, answer, afterHeader, linesAfter, examined}
 use Rattle.chart.specs.First.{FirstAt, first-clean, first-found}
 use Rattle.chart.specs.Header.{header-accepts}
 use Rattle.chart.specs.Good.{missing-clean}
 use Rattle.chart.specs.Accepted.{meant-line}
-use Rattle.chart.specs.LineExact.{Free, boundOf, LineExact, findingOf, header-exact, line-exact}
+use Rattle.chart.specs.LineExact.{Free, LineExact, findingOf, header-exact, line-exact}
 use Rattle.chart.specs.declared.Chart.{Chart}
 use Rattle.chart.specs.declared.Refusal.{Refusal}
 use Rattle.chart.specs.declared.Refusal.the-variants.{Length, Form, Limits, Count, Sequence, Endpoint, Disturbed, Order, NoMeant}

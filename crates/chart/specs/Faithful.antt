@@ -1,18 +1,18 @@
--- Texts and arenas mean each other (T2): an accepted text is the text of its arena, and every arena that is well-formed, within the
+-- Texts and arenas mean each other: an accepted text is the text of its arena, and every arena that is well-formed, within the
 -- limits, with marks 0 or 1 and strictly rising moves has a text that is accepted and means it. An accepted line has the bytes that
 -- set out what it says (specs/Lines.antt); a line of an arena's text reads as what was set out, so that no refusal applies.
-use Prim.Native.Nat.{ℕ, zero, suc, _+_, _-_, _*_, _%_, _≤_, _<_}
+use Prim.Native.Nat.{ℕ, zero, suc, _+_, _-_, _*_, _≤_, _<_}
 use native.Mathlib.Omega.{arith}
 use native.Mathlib.Nat.{add-comm, add-zero}
 use mathlib.Core.Path.{_≡_, refl, sym, ap, ap₂, _∙_, subst, subst₂}
 use mathlib.Core.Logic.{_⊎_, inl, inr, ⊎-elim}
-use mathlib.Core.Bool.{Bool, true, false, cond}
-use mathlib.Core.List.{List, [], _∷_, _++_, append-assoc, append-nil, List·Memᴰ, Memᴰ·cast}
+use mathlib.Core.Bool.{Bool, true, false}
+use mathlib.Core.List.{List, [], _∷_, _++_, append-nil, Memᴰ·cast}
 use lib.ListN.{length, getD, drop, length-append, drop-of-length-le}
 use lib.Seq.{drop-append-add}
 use lib.Dec.{T, eqb, leb, eqb·suc-zero}
 use borrow.Author.Tests.{eqb-true, eqb-false, leb-true, leb-false}
-use Rattle.game.specs.Arena.{Arena, Position, Move, Owner, controller, environment, size, ownerAt, positionAt, moveAt, nowhere, noMove, meantMove, disturbanceMove, Disturbance, mayBeDisturbed, WellFormed}
+use Rattle.game.specs.Arena.{Arena, Position, Move, Owner, controller, environment, size, ownerAt, positionAt, moveAt, nowhere, noMove, meantMove, Disturbance, mayBeDisturbed}
 use Rattle.field.specs.declared.Field.{Field}
 use Rattle.field.specs.declared.Field.the-variants.{Number}
 use Rattle.chart.specs.Text.{letterAt, firstAt, secondAt, endAt, markAt, numberOf, positionsOf, movesOf, fromAt, toAt}

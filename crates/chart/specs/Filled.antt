@@ -6,9 +6,9 @@ use mathlib.Core.List.{List}
 use lib.ListN.{length, getD, set, length-set}
 use lib.Seq.{getD-set-same, getD-set-other}
 use borrow.Author.Count.{below-more}
-use Rattle.game.specs.Arena.{Arena, Position, Move, size, ownerAt, positionAt, moveAt, nowhere, noMove}
-use Rattle.chart.specs.Text.{letterAt, markAt, numberOf, positionsOf, movesOf, fromAt, toAt}
-use Rattle.chart.specs.Meaning.{ownerOf, costOf, positionOn, moveOn, onLines, arenaOf}
+use Rattle.game.specs.Arena.{Arena, Position, Move, size, positionAt, moveAt, nowhere, noMove}
+use Rattle.chart.specs.Text.{markAt, numberOf, positionsOf, movesOf, fromAt, toAt}
+use Rattle.chart.specs.Meaning.{positionOn, moveOn, onLines, arenaOf}
 use Rattle.chart.specs.Examined.{examined}
 use Rattle.chart.specs.Good.{GoodChart, accepted-good}
 use Rattle.chart.specs.Rows.{ownerNumber, Rows}

@@ -7,7 +7,7 @@ use mathlib.Core.List.{List, [], _∷_, _++_, append-assoc}
 use lib.ListN.{length, getD, drop, length-append}
 use lib.Seq.{drop-cons, drop-drop, getD-drop, drop-append-add}
 use Rattle.field.specs.Text.{fieldAt, numberText}
-use Rattle.field.specs.Laws.{field-of-rest, field-begins, number-stands, number-text-length}
+use Rattle.field.specs.Laws.{field-of-rest, field-begins, number-stands}
 use Rattle.field.specs.declared.Field.the-variants.{Number}
 use Rattle.chart.specs.Text.{letterAt, firstAt, secondAt, endAt}
 use Rattle.chart.specs.Meaning.{lineText, linesText, onLines}

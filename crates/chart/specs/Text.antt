@@ -42,7 +42,7 @@ positionsOf text = numberOf (firstAt text 0)
 unfoldable pub movesOf : List ℕ → ℕ
 movesOf text = numberOf (secondAt text 0)
 
--- from and to on move line i
+-- the numbers of line i: on a position line the first is its number, on a move line they are from and to
 unfoldable pub fromAt : List ℕ → ℕ → ℕ
 fromAt text i = numberOf (firstAt text i)
 

@@ -87,7 +87,7 @@ pub enum Examination {
 }
 
 // What examining a part of a text finds.
-pub enum Finding {
+enum Finding {
     Clean,
     Fault(Refusal),
 }

@@ -1,4 +1,4 @@
--- Reading and writing are each other's inverse (T1): five bytes read as x exactly when they are the bytes of x, x at most
+-- Reading and writing are each other's inverse: five bytes read as x exactly when they are the bytes of x, x at most
 -- 99,999. From bytes to text: what `scan` took is spaces and then a lone zero or digits, which say what x is; the place of each
 -- digit then follows by arithmetic. From text to bytes: by how many digits x has.
 use Prim.Native.Nat.{ℕ, zero, suc, _+_, _-_, _*_, _/_, _%_, _≤_, _<_}
@@ -9,10 +9,10 @@ use mathlib.Core.Path.{_≡_, refl, sym, ap, _∙_, subst}
 use mathlib.Core.Logic.{_⊎_, inl, inr, ⊎-elim, _↔_}
 use mathlib.Core.Bool.{Bool, true, false, cond}
 use mathlib.Core.List.{List, [], _∷_, _++_, append-assoc}
-use lib.ListN.{length, getD, take, drop}
+use lib.ListN.{length, take, drop}
 use lib.Seq.{getD-drop, sets-eq, drop-at, drop-cons, length-take-le}
 use lib.Dec.{ltb, eqb}
-use borrow.Author.Tests.{ltb-true, ltb-false, eqb-true, eqb-false, lt-ltb, le-ltb, eq-eqb, ne-eqb}
+use borrow.Author.Tests.{ltb-true, ltb-false, eqb-true, eqb-false, lt-ltb, le-ltb, ne-eqb}
 use Rattle.field.specs.Text.{digitAfter, stepped, scan, ended, fieldOf, five, fieldAt, placeByte, numberText, withNumber}
 use Rattle.field.specs.declared.Field.{Field}
 use Rattle.field.specs.declared.Field.the-variants.{Number, Bad}
@@ -222,7 +222,7 @@ number-reads x h =
     )
     (last-step x h)
 
--- T1: five bytes read as x exactly when they are the bytes of x
+-- five bytes read as x exactly when they are the bytes of x
 pub field-exact : (bytes : List ℕ) (x : ℕ) → length bytes ≡ 5 → fieldOf bytes ≡ Number x ↔ (bytes ≡ numberText x) × (x ≤ 99999)
 field-exact bytes x l = (reads-number bytes x l, λ w. ap fieldOf (w .0) ∙ number-reads x (w .1))
 

@@ -12,7 +12,7 @@ pub enum Field {
 }
 
 // What the bytes of a field so far are: only spaces, a lone zero, a number without a leading zero, or no field.
-pub enum Scan {
+enum Scan {
     Spaces,
     Zero,
     Digits(u32),

@@ -2,7 +2,7 @@
 -- lines, and that their numbers fit 16 bits, is what accepting it says.
 use Prim.Native.Nat.{ℕ, _+_, _-_, _≤_}
 use native.Mathlib.Omega.{arith}
-use mathlib.Core.Path.{_≡_, ap, _∙_, subst}
+use mathlib.Core.Path.{_≡_, subst}
 use lib.ListN.{length}
 use denote.Ref.{now}
 use Rattle.chart.specs.Text.{letterAt}

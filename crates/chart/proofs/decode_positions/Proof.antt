@@ -1,11 +1,11 @@
 -- `chart::decode_positions` meets its contract. The invariant: the rows so far are those of the first v positions. That the text
 -- has the lines, and that its marks fit a byte, is what accepting it says.
-use Prim.Native.Nat.{ℕ, _+_, _-_, _≤_}
+use Prim.Native.Nat.{ℕ, _-_, _≤_}
 use native.Mathlib.Omega.{arith}
 use mathlib.Core.Path.{_≡_, ap, _∙_, subst}
 use lib.ListN.{length}
 use denote.Ref.{now}
-use Rattle.chart.specs.Text.{letterAt, markAt, numberOf}
+use Rattle.chart.specs.Text.{letterAt, numberOf}
 use Rattle.chart.specs.Loaded.{PositionRows}
 use Rattle.chart.specs.Filled.{filled-none, filled-more, PositionsFit, positions-fit}
 use Rattle.chart.proofs.decode_positions.Statement.{statement}

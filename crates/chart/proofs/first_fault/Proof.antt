@@ -2,7 +2,7 @@
 -- leaves that as it is, a fault ends it, and with nothing left there is none: the three laws of `firstOf`.
 use borrow.Author.Needs.{needs}
 use Prim.Native.Nat.{ℕ, _+_, _-_, _≤_}
-use mathlib.Core.Path.{_≡_, refl, sym, ap, _∙_}
+use mathlib.Core.Path.{_≡_, sym, ap, _∙_}
 use native.Mathlib.Omega.{arith}
 use denote.Ref.{now}
 use Rattle.chart.specs.Examined.{firstOf, lineFinding}

@@ -1,5 +1,5 @@
 -- `chart::flag_line` meets its contract: a meant move sets the flag of its from, if there is one, and nothing else is stored.
-use mathlib.Core.Path.{_≡_, refl, sym, ap, _∙_}
+use mathlib.Core.Path.{_≡_}
 use native.Mathlib.Omega.{arith}
 use borrow.Author.Tests.{eq-eqb, ne-eqb}
 use denote.Ref.{now}

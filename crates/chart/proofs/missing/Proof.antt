@@ -1,7 +1,7 @@
 -- `chart::missing` meets its contract: the flags start at 0, so the unflagged positions are those without a meant move.
 use mathlib.Core.Bool.{cond}
 use Prim.Native.Nat.{ℕ}
-use mathlib.Core.Path.{_≡_, refl, sym, ap, _∙_, subst}
+use mathlib.Core.Path.{ap, _∙_}
 use native.Mathlib.Omega.{arith}
 use denote.Ref.{now}
 use Rattle.chart.specs.Examined.{unflaggedAt, missingAt, meantIn}

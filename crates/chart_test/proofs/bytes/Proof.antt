@@ -1,6 +1,5 @@
 -- `chart_test::bytes` is safe and ends: it counts up to `count`.
 use Prim.Native.Nat.{_-_, _≤_}
-use native.Mathlib.Omega.{arith}
 use borrow.Author.Needs.{needs}
 use Rattle.chart_test.proofs.bytes.Statement.{statement}
 use Rattle.chart_test.proofs.bytes.Tie as tie

@@ -1,0 +1,13 @@
+// The collection's program: reads a chart from standard input and writes its plate, or on refusal the line `R`, number, line in
+// the chart's columns.
+use libc::STDIN_FILENO;
+use libc::STDOUT_FILENO;
+
+fn main() {
+    // One byte more than the longest chart, so that a longer input is seen to be longer.
+    let mut text = [0u8; 55309];
+    let got = io::read_full(STDIN_FILENO, &mut text);
+    let mut out = [0u8; 11286];
+    let size = writing::respond(&text[..got], &mut out);
+    io::write_all(STDOUT_FILENO, &out[..size]);
+}

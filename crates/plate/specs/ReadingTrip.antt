@@ -1,0 +1,75 @@
+-- What Reading took (T11): the plate is of the form, the answer is its first line, and the rows, set out again, are the plate.
+use Prim.Native.Nat.{ℕ, _≤_}
+use native.Mathlib.Omega.{arith}
+use mathlib.Core.Path.{_≡_, refl, sym, _∙_, subst}
+use mathlib.Core.Bool.{Bool, true, false, _&&_}
+use mathlib.Core.List.{List}
+use lib.ListN.{length}
+use lib.Dec.{leb}
+use Rattle.game.specs.Arena.{size}
+use Rattle.chart.specs.Meaning.{arenaOf}
+use Rattle.chart.specs.Examined.{examined}
+use Rattle.chart.specs.Accepted.{accepted-size, accepted-chartable}
+use Rattle.chart.specs.declared.Chart.{Chart}
+use Rattle.chart.specs.declared.Examination.{Examination}
+use Rattle.chart.specs.declared.Examination.the-variants.{Accepted, Refused}
+use Rattle.solver.specs.Summarize.{rowValue}
+use Rattle.solver.specs.declared.summary.Summary.{Summary}
+use Rattle.plate.specs.Text.{plateText}
+use Rattle.plate.specs.Form.{OfForm}
+use Rattle.plate.specs.Formed.{formOf}
+use Rattle.plate.specs.Exact.{form-exact}
+use Rattle.plate.specs.Read.{headerIn}
+use Rattle.plate.specs.RowTrip.{rows-set-out}
+use Rattle.plate.specs.Reading.{answerTo, readBy, reading, ReadingIs}
+use Rattle.plate.specs.declared.Form.{Form}
+use Rattle.plate.specs.declared.Form.the-variants.{Good, Bad}
+use Rattle.plate.specs.declared.reading.Reading.{Reading}
+use Rattle.plate.specs.declared.reading.Reading.the-variants.{Rows, Refused as Turned, Short, Malformed}
+
+-- what an answer with rows says: the chart was accepted, the plate is of the form, and the answer is its first line
+pub record Taken (text plate : List ℕ) (h : Summary) : Type 0 where
+  pub chart : Chart
+  pub accepted : examined text ≡ Accepted chart
+  pub form : OfForm (size (arenaOf text)) plate
+  pub header : h ≡ headerIn plate
+
+same-rows : (h k : Summary) → Rows h ≡ Rows k → h ≡ k
+same-rows h k e = cc
+
+pub reading-took : (text plate : List ℕ) (values choices steps : ℕ) (h : Summary) → reading text plate values choices steps ≡ Rows h → Taken text plate h
+unfolding reading readBy answerTo
+reading-took text plate values choices steps h e = examination (examined text) refl
+  where
+    other : (r : Reading) → ((k : Summary) → r ≡ Rows k → ⊥) → r ≡ Rows h → Taken text plate h
+    other r f q = absurd (f h q)
+
+    examined-plate : (chart : Chart) → examined text ≡ Accepted chart → (f : Form) → formOf (chart .positions) plate ≡ f → answerTo plate f ≡ Rows h → Taken text plate h
+    examined-plate chart p Good g q = record {
+      chart = chart;
+      accepted = p;
+      form = subst (λ (n : ℕ). OfForm n plate) (sym (accepted-size text chart p)) (form-exact (chart .positions) plate .0 g);
+      header = sym (same-rows (headerIn plate) h q);
+    }
+    examined-plate chart p (Bad line) g q = other (Malformed line) (λ k z. let w : _≡_ {A = ℕ} 0 1 = cc in omega arith) q
+
+    room : (chart : Chart) → examined text ≡ Accepted chart → (b : Bool) →
+        (leb (chart .positions) values && (leb (chart .positions) choices && leb (chart .positions) steps)) ≡ b → Taken text plate h
+    room chart p true b = examined-plate chart p (formOf (chart .positions) plate) refl (simp (p, b) at e)
+    room chart p false b = other Short (λ k z. let w : _≡_ {A = ℕ} 0 1 = cc in omega arith) (simp (p, b) at e)
+
+    examination : (x : Examination) → examined text ≡ x → Taken text plate h
+    examination (Accepted chart) p = room chart p (leb (chart .positions) values && (leb (chart .positions) choices && leb (chart .positions) steps)) refl
+    examination (Refused r) p = other (Turned r) (λ k z. let w : _≡_ {A = ℕ} 0 1 = cc in omega arith) (simp p at e)
+
+few : (text : List ℕ) (chart : Chart) → examined text ≡ Accepted chart → size (arenaOf text) ≤ 512
+few text chart p = accepted-chartable text chart p .few-positions
+
+-- T11: "Set out again as plate lines, these are the same bytes"
+pub reading-set-out : (text plate values values′ choices choices′ steps steps′ : List ℕ) (r : Reading) (h : Summary) →
+    ReadingIs text plate values values′ choices choices′ steps steps′ r → r ≡ Rows h →
+    plateText (size (arenaOf text)) h (rowValue values′) (rowValue choices′) (rowValue steps′) ≡ plate
+reading-set-out text plate values values′ choices choices′ steps steps′ r h is taken =
+    let w = reading-took text plate (length values) (length choices) (length steps) h (sym (is .answer) ∙ taken) in
+    rows-set-out (size (arenaOf text)) (few text (w .chart) (w .accepted)) plate h values values′ choices choices′ steps steps′ (w .form)
+    (record { header = w .header; rows = is .taken h taken })

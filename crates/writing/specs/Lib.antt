@@ -1,0 +1,5 @@
+pub mod Writing
+pub mod WritingLaws
+pub mod Response
+pub mod ResponseLaws
+pub mod ReadBack

@@ -1,0 +1,114 @@
+// Writing: a chart into its plate.
+ghost use Prim.Native.Nat.{_+_, _*_, _<_, _≤_};
+ghost use mathlib.Core.Path.{_≡_};
+ghost use mathlib.Core.List.{_++_};
+ghost use lib.ListN.{length, drop};
+ghost use Rattle.chart.specs.Meaning.{lineText};
+ghost use Rattle.solver.specs.Solve.{Within};
+ghost use Rattle.value.specs.Valuing.{Decodable};
+ghost use Rattle.writing.specs.Response.{Responded};
+ghost use Rattle.writing.specs.Writing.{PlateWritten, WrittenIs};
+use chart::Examination;
+use chart::Refusal;
+use chart::load;
+use field::write;
+use plate::LINE;
+use plate::write_rows;
+use value::valuing::value_rows;
+
+// What Writing answers: the plate's length, the chart's refusal, or 10: a buffer that the plate does not fit.
+pub enum Written {
+    Length(usize),
+    Refused(Refusal),
+    Short,
+}
+
+// Writes the plate of a chart into a lent buffer. What lies past its last line stays, and on a refusal everything does.
+pub fn write_plate(text: &[u8], out: &mut [u8]) -> Written
+    ensures { λ r. ⌜ WrittenIs (now (text .entry)) (now (out .entry)) (now (out .exit)) r ⌝ }
+{
+    let mut owners = [0u8; 512];
+    let mut marks = [0u8; 512];
+    let mut costs = [0u8; 4096];
+    let mut froms = [0u16; 4096];
+    let mut tos = [0u16; 4096];
+    match load(
+        text,
+        &mut owners,
+        &mut marks,
+        &mut costs,
+        &mut froms,
+        &mut tos,
+    ) {
+        Examination::Refused(r) => Written::Refused(r),
+        Examination::Accepted(chart) => {
+            let n = chart.positions;
+            let m = chart.moves;
+            let size = (n + 1) * LINE;
+            if out.len() < size {
+                return Written::Short;
+            }
+            write_valued(n, m, &owners, &marks, &costs, &froms, &tos, out);
+            Written::Length(size)
+        }
+    }
+}
+
+// Values decoded rows and writes their plate.
+fn write_valued(
+    n: usize,
+    m: usize,
+    owners: &[u8],
+    marks: &[u8],
+    costs: &[u8],
+    froms: &[u16],
+    tos: &[u16],
+    out: &mut [u8],
+)
+    requires { ⌜ Within n m (now costs) (now froms) (now tos) × (n ≤ 512) × (n ≤ length (now owners)) × (n ≤ length (now marks)) × ((n + 1) * 22 ≤ length (now out)) ⌝ }
+    requires { ⌜ Decodable n m (now owners) (now marks) (now costs) (now froms) (now tos) ⌝ }
+    ensures { λ _. ⌜ PlateWritten n m (now (owners .entry)) (now (marks .entry)) (now (costs .entry)) (now (froms .entry)) (now (tos .entry)) (now (out .entry)) (now (out .exit)) ⌝ }
+{
+    let mut values = [0u16; 512];
+    let mut choices = [0u16; 512];
+    let mut steps = [0u16; 512];
+    let s = value_rows(
+        n,
+        m,
+        owners,
+        marks,
+        costs,
+        froms,
+        tos,
+        &mut values,
+        &mut choices,
+        &mut steps,
+    );
+    write_rows(n, s, &values, &choices, &steps, out);
+}
+
+// The program's answer into a buffer with room for every plate: the plate, or the refusal's line. Answers its length.
+pub fn respond(text: &[u8], out: &mut [u8]) -> usize
+    requires { ⌜ 11286 ≤ length (now out) ⌝ }
+    ensures { λ r. ⌜ Responded (now (text .entry)) (now (out .entry)) (now (out .exit)) r ⌝ }
+{
+    match write_plate(text, out) {
+        Written::Length(k) => k,
+        Written::Refused(r) => {
+            write_refusal(r.number(), (r.line() % 100000) as u32, out);
+            12
+        }
+        Written::Short => 0,
+    }
+}
+
+// The line of a refusal into the first 12 bytes of the buffer; the others stay.
+fn write_refusal(number: u32, line: u32, out: &mut [u8])
+    requires { ⌜ 12 ≤ length (now out) ⌝ }
+    ensures { λ _. ⌜ now (out .exit) ≡ lineText 82 number line ++ drop 12 (now (out .entry)) ⌝ }
+{
+    out[0] = b'R';
+    write(number, out, 1);
+    write(line, out, 6);
+    out[11] = b'\n';
+}
