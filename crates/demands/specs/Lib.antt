@@ -2,5 +2,7 @@
 pub mod Sanctioned
 pub mod Demand2
 pub mod Demand3
+pub mod EdgeCharts
 pub mod SanctionedLaws
 pub mod Demand3Holds
+pub mod EdgeChartsHold
