@@ -12,7 +12,7 @@ use Rattle.chart.specs.Examined.{examined}
 use Rattle.chart.specs.Refusals.{refusalNumber, refusalLine}
 use Rattle.chart.specs.declared.Examination.{Examination}
 use Rattle.chart.specs.declared.Examination.the-variants.{Accepted, Refused}
-use Rattle.value.specs.declared.summary.Summary.{Summary}
+use Rattle.solver.specs.declared.summary.Summary.{Summary}
 use Rattle.plate.specs.Formed.{formOf}
 use Rattle.plate.specs.Read.{headerIn, ColumnsRead}
 use Rattle.plate.specs.declared.Form.{Form}

@@ -7,8 +7,8 @@ use mathlib.Core.List.{List, _++_}
 use Rattle.game.specs.Value.{Value, numberOf, valueOf}
 use Rattle.game.specs.ValueLaws.{Fits, value-of-number}
 use Rattle.chart.specs.Rows.{RowIs}
-use Rattle.value.specs.Summarize.{rowValue}
-use Rattle.value.specs.declared.summary.Summary.{Summary}
+use Rattle.solver.specs.Summarize.{rowValue}
+use Rattle.solver.specs.declared.summary.Summary.{Summary}
 use Rattle.plate.specs.Text.{headerLine, positionLines, plateText}
 use Rattle.plate.specs.Form.{OfForm}
 use Rattle.plate.specs.Read.{headerIn, valueIn, choiceIn, stepIn, RowsRead}

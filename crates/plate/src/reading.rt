@@ -6,7 +6,7 @@ use crate::read_rows;
 use chart::Examination;
 use chart::Refusal;
 use chart::examine;
-use value::summary::Summary;
+use solver::summary::Summary;
 
 // What Reading answers: the first line's numbers, the chart's refusal, 10: a row shorter than the count of positions, or 11 at a
 // line.

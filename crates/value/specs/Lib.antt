@@ -1,14 +1,3 @@
-pub mod RowLaws
-pub mod Solve
-pub mod PlaceLaws
-pub mod Held
-pub mod HeldLaws
-pub mod SettleLaws
-pub mod SolveLaws
-pub mod Choose
-pub mod ChooseLaws
-pub mod Summarize
-pub mod SummarizeLaws
 pub mod Valuing
 pub mod ValuingLaws
 pub mod Weigh

@@ -18,8 +18,8 @@ use Rattle.chart.specs.Loaded.{Filled}
 use Rattle.chart.specs.Examined.{examined}
 use Rattle.chart.specs.declared.Examination.{Examination}
 use Rattle.chart.specs.declared.Examination.the-variants.{Accepted, Refused}
-use Rattle.value.specs.Held.{Decoded}
-use Rattle.value.specs.declared.summary.Summary.{Summary}
+use Rattle.solver.specs.Held.{Decoded}
+use Rattle.solver.specs.declared.summary.Summary.{Summary}
 use Rattle.value.specs.declared.valuing.Valued.{Valued}
 use Rattle.value.specs.declared.valuing.Valued.the-variants.{Rounds, Refused as Turned, Short}
 

@@ -22,15 +22,15 @@ use Rattle.chart.specs.Accepted.{accepted-chartable, accepted-size, accepted-mo
 use Rattle.chart.specs.declared.Chart.{Chart}
 use Rattle.chart.specs.declared.Examination.the-variants.{Accepted, Refused}
 use Rattle.chart.specs.declared.Refusal.{Refusal}
-use Rattle.value.specs.Solve.{Within}
-use Rattle.value.specs.Held.{Holds, Decoded, Solved}
-use Rattle.value.specs.HeldLaws.{decoded-within}
-use Rattle.value.specs.Choose.{ValuesAre, Chosen}
-use Rattle.value.specs.Summarize.{rowValue, PairsFit, SummaryOf}
-use Rattle.value.specs.SummarizeLaws.{some-same}
+use Rattle.solver.specs.Solve.{Within}
+use Rattle.solver.specs.Held.{Holds, Decoded, Solved}
+use Rattle.solver.specs.HeldLaws.{decoded-within}
+use Rattle.solver.specs.Choose.{ValuesAre, Chosen}
+use Rattle.solver.specs.Summarize.{rowValue, PairsFit, SummaryOf}
+use Rattle.solver.specs.SummarizeLaws.{some-same}
 use Rattle.value.specs.Valuing.{PlateRows, PlateSummary, Decodable, RowsValued, valued, valuedBy, ValuedIs}
 use Rattle.value.specs.declared.valuing.Valued.the-variants.{Rounds, Refused as Turned, Short}
-use Rattle.value.specs.declared.summary.Summary.{Summary}
+use Rattle.solver.specs.declared.summary.Summary.{Summary}
 
 -- Rows that agree below n have the same summary
 

@@ -6,8 +6,8 @@ use mathlib.Core.List.{List, [], _∷_, _++_}
 use lib.ListN.{length, getD, set}
 use lib.Dec.{eqb}
 use Rattle.chart.specs.Rows.{RowIs}
-use Rattle.value.specs.RowLaws.{setIf, found, numberAt}
-use Rattle.value.specs.Solve.{bit}
+use Rattle.solver.specs.RowLaws.{setIf, found, numberAt}
+use Rattle.solver.specs.Solve.{bit}
 
 -- the i-th move is a meant move into the choice of the position that it leaves
 unfoldable pub isChosen : (costs froms tos choices : List ℕ) → ℕ → Bool

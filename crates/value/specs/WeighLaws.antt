@@ -11,9 +11,9 @@ use lib.Seq.{getD-set-same, getD-set-other, getD-append-seam}
 use lib.Dec.{T, eqb}
 use borrow.Author.Tests.{eq-eqb, ne-eqb}
 use Rattle.chart.specs.Rows.{RowIs}
-use Rattle.value.specs.RowLaws.{setIf}
-use Rattle.value.specs.Solve.{bit}
-use Rattle.value.specs.PlaceLaws.{bit-le}
+use Rattle.solver.specs.RowLaws.{setIf}
+use Rattle.solver.specs.Solve.{bit}
+use Rattle.solver.specs.PlaceLaws.{bit-le}
 use Rattle.value.specs.Weigh.{passing, CopyOf, Copied, CopiedMove, moveStays}
 
 -- one number more

@@ -20,9 +20,9 @@ use Rattle.chart.specs.Loaded.{Filled}
 use Rattle.chart.specs.Examined.{examined}
 use Rattle.chart.specs.declared.Examination.{Examination}
 use Rattle.chart.specs.declared.Examination.the-variants.{Accepted, Refused}
-use Rattle.value.specs.RowLaws.{Stays}
-use Rattle.value.specs.Held.{Decoded}
-use Rattle.value.specs.Summarize.{rowValue}
+use Rattle.solver.specs.RowLaws.{Stays}
+use Rattle.solver.specs.Held.{Decoded}
+use Rattle.solver.specs.Summarize.{rowValue}
 use Rattle.value.specs.declared.weighing.Weighed.{Weighed}
 use Rattle.value.specs.declared.weighing.Weighed.the-variants.{Done, Refused as Turned, Short, Choice}
 

@@ -30,12 +30,12 @@ use Rattle.chart.specs.Accepted.{accepted-size}
 use Rattle.chart.specs.declared.Chart.{Chart}
 use Rattle.chart.specs.declared.Refusal.{Refusal}
 use Rattle.chart.specs.declared.Examination.the-variants.{Accepted, Refused}
-use Rattle.value.specs.RowLaws.{Stays, Marked, found, numberAt, some-hit}
-use Rattle.value.specs.Solve.{bit, Within}
-use Rattle.value.specs.Held.{Holds, Decoded, Solved}
-use Rattle.value.specs.HeldLaws.{bit-one, from-inside, to-inside, lines-of}
-use Rattle.value.specs.Summarize.{rowValue}
-use Rattle.value.specs.SummarizeLaws.{same-values, ever-number, some-same}
+use Rattle.solver.specs.RowLaws.{Stays, Marked, found, numberAt, some-hit}
+use Rattle.solver.specs.Solve.{bit, Within}
+use Rattle.solver.specs.Held.{Holds, Decoded, Solved}
+use Rattle.solver.specs.HeldLaws.{bit-one, from-inside, to-inside, lines-of}
+use Rattle.solver.specs.Summarize.{rowValue}
+use Rattle.solver.specs.SummarizeLaws.{same-values, ever-number, some-same}
 use Rattle.value.specs.ValuingLaws.{round-value-fits}
 use Rattle.value.specs.Weigh.{isChosen, isLegal, moveStays, passing, Copied}
 use Rattle.value.specs.WeighLaws.{passing-length}

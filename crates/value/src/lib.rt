@@ -1,5 +1,3 @@
-pub mod choose;
-pub mod solve;
-pub mod summary;
+// The jobs Valuing and Weighing, over the solver.
 pub mod valuing;
 pub mod weighing;

@@ -1,15 +1,15 @@
 // Valuing: a chart into rows of values, choices and steps.
 ghost use Prim.Native.Nat.{_<_, _≤_};
 ghost use lib.ListN.{length};
-ghost use Rattle.value.specs.Solve.{Within};
+ghost use Rattle.solver.specs.Solve.{Within};
 ghost use Rattle.value.specs.Valuing.{Decodable, RowsValued, ValuedIs};
-use crate::choose::choose;
-use crate::solve::solve;
-use crate::summary::Summary;
-use crate::summary::summarize;
 use chart::Examination;
 use chart::Refusal;
 use chart::load;
+use solver::choose::choose;
+use solver::solve::solve;
+use solver::summary::Summary;
+use solver::summary::summarize;
 
 // What Valuing answers: the count of rounds, the chart's refusal, or 10: a row shorter than the count of positions.
 pub enum Valued {

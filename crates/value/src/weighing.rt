@@ -4,16 +4,16 @@ ghost use mathlib.Core.Bool.{not};
 ghost use Prim.Native.Nat.{_<_, _≤_};
 ghost use lib.ListN.{length, getD};
 ghost use Rattle.game.specs.Summary.{someBelow};
-ghost use Rattle.value.specs.RowLaws.{Marked, numberAt, setIf};
-ghost use Rattle.value.specs.Solve.{AtMove, Within, bit};
+ghost use Rattle.solver.specs.RowLaws.{Marked, numberAt, setIf};
+ghost use Rattle.solver.specs.Solve.{AtMove, Within, bit};
 ghost use Rattle.value.specs.Weighing.{RestrictedSolved, RowsWeighed, WeighedIs};
 ghost use Rattle.value.specs.Weigh.{Copied, CopiedMove, isChosen, isLegal, moveStays};
-use crate::solve::NONE;
-use crate::solve::flag_none;
-use crate::solve::solve;
 use chart::Examination;
 use chart::Refusal;
 use chart::load;
+use solver::solve::NONE;
+use solver::solve::flag_none;
+use solver::solve::solve;
 
 // What Weighing answers: that the worths are there, the chart's refusal, 10: a row shorter than the count of positions, or
 // 12: a choice that is not legal.

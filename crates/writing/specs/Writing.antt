@@ -16,8 +16,8 @@ use Rattle.chart.specs.Meaning.{arenaOf}
 use Rattle.chart.specs.Examined.{examined}
 use Rattle.chart.specs.declared.Examination.{Examination}
 use Rattle.chart.specs.declared.Examination.the-variants.{Accepted, Refused}
-use Rattle.value.specs.Held.{Decoded}
-use Rattle.value.specs.declared.summary.Summary.{Summary}
+use Rattle.solver.specs.Held.{Decoded}
+use Rattle.solver.specs.declared.summary.Summary.{Summary}
 use Rattle.plate.specs.Text.{plateText}
 use Rattle.writing.specs.declared.Written.{Written}
 use Rattle.writing.specs.declared.Written.the-variants.{Length, Refused as Turned, Short}

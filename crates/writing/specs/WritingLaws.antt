@@ -20,11 +20,11 @@ use Rattle.chart.specs.Accepted.{accepted-size}
 use Rattle.chart.specs.declared.Chart.{Chart}
 use Rattle.chart.specs.declared.Refusal.{Refusal}
 use Rattle.chart.specs.declared.Examination.the-variants.{Accepted, Refused}
-use Rattle.value.specs.Held.{Decoded}
-use Rattle.value.specs.Summarize.{rowValue}
+use Rattle.solver.specs.Held.{Decoded}
+use Rattle.solver.specs.Summarize.{rowValue}
 use Rattle.value.specs.Valuing.{PlateRows, PlateSummary, RowsValued}
 use Rattle.value.specs.ValuingLaws.{round-value-fits, round-step-fits}
-use Rattle.value.specs.declared.summary.Summary.{Summary}
+use Rattle.solver.specs.declared.summary.Summary.{Summary}
 use Rattle.plate.specs.Text.{plateText, headerLine, positionLine, positionLines}
 use Rattle.writing.specs.Writing.{summaryOf, plateOf, PlateWritten, written, writtenBy, WrittenIs}
 use Rattle.writing.specs.declared.Written.the-variants.{Length, Refused as Turned, Short}

@@ -4,7 +4,7 @@ ghost use mathlib.Core.Path.{_≡_};
 ghost use mathlib.Core.List.{_++_};
 ghost use lib.ListN.{length, drop};
 ghost use Rattle.chart.specs.Meaning.{lineText};
-ghost use Rattle.value.specs.Solve.{Within};
+ghost use Rattle.solver.specs.Solve.{Within};
 ghost use Rattle.value.specs.Valuing.{Decodable};
 ghost use Rattle.writing.specs.Response.{Responded};
 ghost use Rattle.writing.specs.Writing.{PlateWritten, WrittenIs};

@@ -5,14 +5,14 @@ use native.Mathlib.Omega.{arith}
 use borrow.Author.Needs.{needs}
 use mathlib.Core.Path.{_≡_, refl, sym, ap, _∙_}
 use lib.ListN.{length, getD, set, length-set}
-use Rattle.value.specs.RowLaws.{Marked, numberAt, marked-none, marked-next}
-use Rattle.value.specs.Solve.{bit}
+use Rattle.solver.specs.RowLaws.{Marked, numberAt, marked-none, marked-next}
+use Rattle.solver.specs.Solve.{bit}
 use Rattle.value.specs.Weigh.{isChosen}
 use Rattle.value.proofs.weighing.flag_chosen.Statement.{statement}
 use Rattle.value.proofs.weighing.flag_chosen.Tie as tie
 use Rattle.value.proofs.weighing.flag_chosen.Reads as reads
 use Rattle.value.proofs.weighing.flag_chosen.Lts as lts
-use Rattle.value.proofs.solve.flag_none.Reads as flag-none-reads
+use Rattle.solver.proofs.solve.flag_none.Reads as flag-none-reads
 use Rattle.value.proofs.weighing.flag_chosen_by.Reads as flag-chosen-by-reads
 
 abbrev Inv-loop : tie.InvT-loop

@@ -9,7 +9,7 @@ use Rattle.value.proofs.weighing.solve_restricted.Statement.{statement}
 use Rattle.value.proofs.weighing.solve_restricted.Tie as tie
 use Rattle.value.proofs.weighing.solve_restricted.Reads as reads
 use Rattle.value.proofs.weighing.solve_restricted.Lts as lts
-use Rattle.value.proofs.solve.solve.Reads as solve-reads
+use Rattle.solver.proofs.solve.solve.Reads as solve-reads
 use Rattle.value.proofs.weighing.restrict.Reads as restrict-reads
 
 slice-aggregate-restrict : tie.Need-slice-aggregate-restrict

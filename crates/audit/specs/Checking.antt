@@ -1,0 +1,71 @@
+-- Checking (document 01, "The jobs" and the refusal table): "a chart and anybody's plate", refusals 1 to 9, then 11, then 14
+-- with the first fault's position and condition.
+use Prim.Native.Nat.{ℕ}
+use mathlib.Core.Path.{_≡_}
+use mathlib.Core.List.{List}
+use Rattle.game.specs.Arena.{Arena, positionAt}
+use Rattle.chart.specs.Rows.{RowIs}
+use Rattle.chart.specs.Meaning.{arenaOf}
+use Rattle.chart.specs.Examined.{examined}
+use Rattle.chart.specs.Refusals.{refusalNumber, refusalLine}
+use Rattle.chart.specs.declared.Examination.{Examination}
+use Rattle.chart.specs.declared.Examination.the-variants.{Accepted as Taken, Refused as Turned}
+use Rattle.solver.specs.Held.{Decoded}
+use Rattle.plate.specs.Formed.{formOf}
+use Rattle.plate.specs.Read.{headerIn, valueIn, choiceIn, stepIn}
+use Rattle.plate.specs.declared.Form.{Form as PlateForm}
+use Rattle.plate.specs.declared.Form.the-variants.{Good, Bad}
+use Rattle.audit.specs.Verdict.{verdictOf}
+use Rattle.audit.specs.declared.rows.Verdict.{Verdict}
+use Rattle.audit.specs.declared.rows.Verdict.the-variants.{Sound, Fault}
+use Rattle.audit.specs.declared.Checked.{Checked}
+use Rattle.audit.specs.declared.Checked.the-variants.{Accepted, Refused, Form, Fault as Faulty}
+
+-- "A refusal gives a number and a line, counted from 0 in the chart (1 to 9) or plate (11), else 0"; 0 if accepted
+abbrev pub checkedNumber : Checked → ℕ
+checkedNumber Accepted = 0
+checkedNumber (Refused r) = refusalNumber r
+checkedNumber (Form line) = 11
+checkedNumber (Faulty v c) = 14
+
+abbrev pub checkedLine : Checked → ℕ
+checkedLine Accepted = 0
+checkedLine (Refused r) = refusalLine r
+checkedLine (Form line) = line
+checkedLine (Faulty v c) = 0
+
+-- "14 gives the fault's position and condition besides"
+abbrev pub faultPosition : Checked → ℕ
+faultPosition Accepted = 0
+faultPosition (Refused r) = 0
+faultPosition (Form line) = 0
+faultPosition (Faulty v c) = v
+
+abbrev pub faultCondition : Checked → ℕ
+faultCondition Accepted = 0
+faultCondition (Refused r) = 0
+faultCondition (Form line) = 0
+faultCondition (Faulty v c) = c
+
+-- the answer to a plate of the form
+abbrev pub answerOf : Verdict → Checked
+answerOf Sound = Accepted
+answerOf (Fault v c) = Faulty v c
+
+-- to a plate that was examined
+unfoldable pub plateChecked : Arena → List ℕ → PlateForm → Checked
+plateChecked a plate (Bad line) = Form line
+plateChecked a plate Good = answerOf (verdictOf a (valueIn plate) (choiceIn plate) (stepIn plate) (headerIn plate))
+
+-- to a chart that was examined, and a plate
+unfoldable pub chartChecked : List ℕ → List ℕ → Examination → Checked
+chartChecked text plate (Turned r) = Refused r
+chartChecked text plate (Taken chart) = plateChecked (arenaOf text) plate (formOf (chart .positions) plate)
+
+-- to any two texts
+unfoldable pub checked : List ℕ → List ℕ → Checked
+checked text plate = chartChecked text plate (examined text)
+
+-- the answer to a chart's rows and a plate, for every arena that the rows hold
+pub record PlateIs (n m : ℕ) (owners marks costs froms tos plate : List ℕ) (r : Checked) : Type 0 where
+  pub answer : (a : Arena) → Decoded a n m owners costs froms tos → RowIs marks n (λ v. positionAt a v .mark) → r ≡ plateChecked a plate (formOf n plate)

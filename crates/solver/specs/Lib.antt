@@ -1,0 +1,11 @@
+pub mod RowLaws
+pub mod Solve
+pub mod PlaceLaws
+pub mod Held
+pub mod HeldLaws
+pub mod SettleLaws
+pub mod SolveLaws
+pub mod Choose
+pub mod ChooseLaws
+pub mod Summarize
+pub mod SummarizeLaws

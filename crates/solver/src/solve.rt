@@ -1,0 +1,303 @@
+// The rounds of document 01, the plain way: each round walks all moves against the table as it was, and then places.
+ghost use mathlib.Core.Path.{_≡_};
+ghost use Prim.Native.Nat.{_<_, _≤_};
+ghost use mathlib.Core.Bool.{true, false};
+ghost use lib.ListN.{length, getD};
+ghost use Rattle.chart.specs.Loaded.{Filled};
+ghost use Rattle.solver.specs.RowLaws.{Marked, numberAt, setIf};
+ghost use Rattle.solver.specs.Held.{NextValue, Settling, Solved, Solving};
+ghost use Rattle.solver.specs.Solve.{AtMove, Placing, PlacingAt, Within, firstFlag, bit, decides, disturbs, readyFlag};
+
+// The value and the step of a position that is not placed, and of one that never is: "ever" and the dash.
+pub const NONE: u16 = 65535;
+
+// The first n numbers become NONE.
+pub fn clear(n: usize, row: &mut [u16])
+    requires { ⌜ n ≤ length (now row) ⌝ }
+    ensures { λ _. ⌜ Filled (now (row .entry)) (now (row .exit)) n (λ v. 65535) ⌝ }
+{
+    let mut v: usize = 0;
+    while v < n {
+        row[v] = NONE;
+        v += 1;
+    }
+}
+
+// Places v in round (k, s) if it is flagged and not placed yet, and counts it.
+fn place_one(v: usize, flags: &[u8], k: u16, s: u16, values: &mut [u16], steps: &mut [u16]) -> usize
+    requires { ⌜ (v < length (now flags)) × (v < length (now values)) × (v < length (now steps)) ⌝ }
+    ensures { λ r. ⌜ PlacingAt v (now (flags .entry)) k s (now (values .entry)) (now (steps .entry)) (now (values .exit)) (now (steps .exit)) r ⌝ }
+{
+    if flags[v] != 1 {
+        return 0;
+    }
+    if values[v] != NONE {
+        return 0;
+    }
+    values[v] = k;
+    steps[v] = s;
+    1
+}
+
+// Round (k, s): places the flagged positions that are not placed yet, and counts them.
+fn place(n: usize, flags: &[u8], k: u16, s: u16, values: &mut [u16], steps: &mut [u16]) -> usize
+    requires { ⌜ (n ≤ length (now flags)) × (n ≤ length (now values)) × (n ≤ length (now steps)) ⌝ }
+    ensures { λ r. ⌜ Placing n (now (flags .entry)) k s (now (values .entry)) (now (steps .entry)) (now (values .exit)) (now (steps .exit)) r ⌝ }
+{
+    let mut count: usize = 0;
+    let mut v: usize = 0;
+    while v < n {
+        count += place_one(v, flags, k, s, values, steps);
+        v += 1;
+    }
+    count
+}
+
+// The flag of a position before any of its moves is seen: 1 at O, 0 at L.
+fn first_flag(owner: u8) -> u8
+    ensures { λ r. ⌜ r ≡ firstFlag owner ⌝ }
+{
+    if owner == 0 { 1 } else { 0 }
+}
+
+fn flag_owners(n: usize, owners: &[u8], flags: &mut [u8])
+    requires { ⌜ (n ≤ length (now owners)) × (n ≤ length (now flags)) ⌝ }
+    ensures { λ _. ⌜ Filled (now (flags .entry)) (now (flags .exit)) n (λ v. readyFlag (now (owners .entry)) v false) ⌝ }
+{
+    let mut v: usize = 0;
+    while v < n {
+        flags[v] = first_flag(owners[v]);
+        v += 1;
+    }
+}
+
+// Sets the flag of the position that the i-th move leaves, if that move decides it.
+fn flag_ready_by(
+    i: usize,
+    owners: &[u8],
+    costs: &[u8],
+    froms: &[u16],
+    tos: &[u16],
+    values: &[u16],
+    flags: &mut [u8],
+)
+    requires { ⌜ AtMove i (now costs) (now froms) (now tos) (now values) (now flags) × (getD (now froms) i 0 < length (now owners)) ⌝ }
+    ensures { λ _. ⌜ now (flags .exit) ≡ setIf (decides (now (owners .entry)) (now (costs .entry)) (now (froms .entry)) (now (tos .entry)) (now (values .entry)) i) (getD (now (froms .entry)) i 0) (readyFlag (now (owners .entry)) (getD (now (froms .entry)) i 0) true) (now (flags .entry)) ⌝ }
+{
+    if costs[i] != 0 {
+        return;
+    }
+    let from = froms[i] as usize;
+    let to = tos[i] as usize;
+    if owners[from] == 0 {
+        if values[to] == NONE {
+            flags[from] = 0;
+        }
+    } else {
+        if values[to] != NONE {
+            flags[from] = 1;
+        }
+    }
+}
+
+// Flags the positions that join round (k, s + 1): at O all meant targets are placed, at L one is.
+fn flag_ready(
+    n: usize,
+    m: usize,
+    owners: &[u8],
+    costs: &[u8],
+    froms: &[u16],
+    tos: &[u16],
+    values: &[u16],
+    flags: &mut [u8],
+)
+    requires { ⌜ Within n m (now costs) (now froms) (now tos) × (n ≤ length (now owners)) × (n ≤ length (now values)) × (n ≤ length (now flags)) ⌝ }
+    ensures { λ _. ⌜ Marked n (numberAt (now (froms .entry))) (decides (now (owners .entry)) (now (costs .entry)) (now (froms .entry)) (now (tos .entry)) (now (values .entry))) (readyFlag (now (owners .entry))) m (now (flags .exit)) ⌝ }
+{
+    flag_owners(n, owners, flags);
+    let mut i: usize = 0;
+    while i < m {
+        flag_ready_by(i, owners, costs, froms, tos, values, flags);
+        i += 1;
+    }
+}
+
+// Flags the position that the i-th move leaves, if that move is a disturbance into value k.
+fn flag_disturbed_by(
+    i: usize,
+    k: u16,
+    costs: &[u8],
+    froms: &[u16],
+    tos: &[u16],
+    values: &[u16],
+    flags: &mut [u8],
+)
+    requires { ⌜ AtMove i (now costs) (now froms) (now tos) (now values) (now flags) ⌝ }
+    ensures { λ _. ⌜ now (flags .exit) ≡ setIf (disturbs (now (costs .entry)) (now (tos .entry)) (now (values .entry)) k i) (getD (now (froms .entry)) i 0) 1 (now (flags .entry)) ⌝ }
+{
+    if costs[i] != 1 {
+        return;
+    }
+    let from = froms[i] as usize;
+    let to = tos[i] as usize;
+    if values[to] == k {
+        flags[from] = 1;
+    }
+}
+
+pub fn flag_none(n: usize, flags: &mut [u8])
+    requires { ⌜ n ≤ length (now flags) ⌝ }
+    ensures { λ _. ⌜ Filled (now (flags .entry)) (now (flags .exit)) n (λ v. 0) ⌝ }
+{
+    let mut v: usize = 0;
+    while v < n {
+        flags[v] = 0;
+        v += 1;
+    }
+}
+
+// Flags the positions with a disturbance into value k: those that join round (k + 1, 0).
+fn flag_disturbed(
+    n: usize,
+    m: usize,
+    k: u16,
+    costs: &[u8],
+    froms: &[u16],
+    tos: &[u16],
+    values: &[u16],
+    flags: &mut [u8],
+)
+    requires { ⌜ Within n m (now costs) (now froms) (now tos) × (n ≤ length (now values)) × (n ≤ length (now flags)) ⌝ }
+    ensures { λ _. ⌜ Marked n (numberAt (now (froms .entry))) (disturbs (now (costs .entry)) (now (tos .entry)) (now (values .entry)) k) (λ v. bit) m (now (flags .exit)) ⌝ }
+{
+    flag_none(n, flags);
+    let mut i: usize = 0;
+    while i < m {
+        flag_disturbed_by(i, k, costs, froms, tos, values, flags);
+        i += 1;
+    }
+}
+
+// The rounds (k, 1), (k, 2), .. up to the first that places nobody.
+fn settle(
+    n: usize,
+    m: usize,
+    owners: &[u8],
+    costs: &[u8],
+    froms: &[u16],
+    tos: &[u16],
+    k: u16,
+    flags: &mut [u8],
+    values: &mut [u16],
+    steps: &mut [u16],
+)
+    requires { ⌜ Within n m (now costs) (now froms) (now tos) × (n ≤ 512) × (k < 65535) × (n ≤ length (now owners)) × (n ≤ length (now flags)) × (n ≤ length (now values)) × (n ≤ length (now steps)) ⌝ }
+    ensures { λ _. ⌜ Settling n m (now (owners .entry)) (now (costs .entry)) (now (froms .entry)) (now (tos .entry)) k n (now (values .entry)) (now (steps .entry)) (now (values .exit)) (now (steps .exit)) ⌝ }
+{
+    let mut s: u16 = 0;
+    while (s as usize) < n {
+        flag_ready(n, m, owners, costs, froms, tos, values, flags);
+        s += 1;
+        let count = place(n, flags, k, s, values, steps);
+        if count == 0 {
+            return;
+        }
+    }
+}
+
+// The rounds of value 0.
+fn first_value(
+    n: usize,
+    m: usize,
+    owners: &[u8],
+    marks: &[u8],
+    costs: &[u8],
+    froms: &[u16],
+    tos: &[u16],
+    flags: &mut [u8],
+    values: &mut [u16],
+    steps: &mut [u16],
+)
+    requires { ⌜ Within n m (now costs) (now froms) (now tos) × (n ≤ 512) × (n ≤ length (now owners)) × (n ≤ length (now marks)) × (n ≤ length (now flags)) × (n ≤ length (now values)) × (n ≤ length (now steps)) ⌝ }
+    ensures { λ _. ⌜ Solving n m (now (owners .entry)) (now (marks .entry)) (now (costs .entry)) (now (froms .entry)) (now (tos .entry)) 0 (now (values .entry)) (now (steps .entry)) (now (values .exit)) (now (steps .exit)) ⌝ }
+{
+    clear(n, values);
+    clear(n, steps);
+    place(n, marks, 0, 0, values, steps);
+    settle(n, m, owners, costs, froms, tos, 0, flags, values, steps);
+}
+
+// The rounds of the value after the last one, up to the first that places nobody. Counts what its first round places.
+fn next_value(
+    n: usize,
+    m: usize,
+    owners: &[u8],
+    costs: &[u8],
+    froms: &[u16],
+    tos: &[u16],
+    last: u16,
+    flags: &mut [u8],
+    values: &mut [u16],
+    steps: &mut [u16],
+) -> usize
+    requires { ⌜ Within n m (now costs) (now froms) (now tos) × (n ≤ 512) × (last < 512) × (n ≤ length (now owners)) × (n ≤ length (now flags)) × (n ≤ length (now values)) × (n ≤ length (now steps)) ⌝ }
+    ensures { λ r. ⌜ NextValue n m (now (owners .entry)) (now (costs .entry)) (now (froms .entry)) (now (tos .entry)) last (now (values .entry)) (now (steps .entry)) (now (values .exit)) (now (steps .exit)) r ⌝ }
+{
+    flag_disturbed(n, m, last, costs, froms, tos, values, flags);
+    let k = last + 1;
+    let count = place(n, flags, k, 0, values, steps);
+    if count == 0 {
+        return 0;
+    }
+    settle(n, m, owners, costs, froms, tos, k, flags, values, steps);
+    count
+}
+
+// Values and steps by rounds: 65,535 for "ever" and its dash.
+pub fn solve(
+    n: usize,
+    m: usize,
+    owners: &[u8],
+    marks: &[u8],
+    costs: &[u8],
+    froms: &[u16],
+    tos: &[u16],
+    values: &mut [u16],
+    steps: &mut [u16],
+)
+    requires { ⌜ Within n m (now costs) (now froms) (now tos) × (n ≤ 512) × (n ≤ length (now owners)) × (n ≤ length (now marks)) × (n ≤ length (now values)) × (n ≤ length (now steps)) ⌝ }
+    ensures { λ _. ⌜ Solved n m (now (owners .entry)) (now (marks .entry)) (now (costs .entry)) (now (froms .entry)) (now (tos .entry)) (now (values .entry)) (now (steps .entry)) (now (values .exit)) (now (steps .exit)) ⌝ }
+{
+    let mut flags = [0u8; 512];
+    first_value(
+        n,
+        m,
+        owners,
+        marks,
+        costs,
+        froms,
+        tos,
+        &mut flags,
+        values,
+        steps,
+    );
+    let mut last: u16 = 0;
+    while (last as usize) < n {
+        let count = next_value(
+            n,
+            m,
+            owners,
+            costs,
+            froms,
+            tos,
+            last,
+            &mut flags,
+            values,
+            steps,
+        );
+        if count == 0 {
+            return;
+        }
+        last += 1;
+    }
+}
