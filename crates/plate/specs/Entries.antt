@@ -45,6 +45,11 @@ written-entry-reads Dash h = refl
 written-entry-reads Ever h = refl
 written-entry-reads Bad h = absurd h
 
+-- a blank field is bad
+pub blank-reads-bad : entryOf (entryText Bad) ≡ Bad
+unfolding entryOf entryText orWord wordOf sameText dashText everText fieldOf scan stepped ended
+blank-reads-bad = refl
+
 -- an entry that is not bad is read from its bytes only
 pub read-entry-stands : (bytes : List ℕ) (e : Entry) → length bytes ≡ 5 → (e ≡ Bad → ⊥) → entryOf bytes ≡ e → (bytes ≡ entryText e) × Writable e
 unfolding entryOf orWord wordOf entryText Writable

@@ -9,6 +9,7 @@ use lib.Dec.{leb}
 use Rattle.game.specs.Arena.{size}
 use Rattle.chart.specs.Meaning.{arenaOf}
 use Rattle.chart.specs.Examined.{examined}
+use Rattle.chart.specs.Refusals.{refusalNumber, refusalLine}
 use Rattle.chart.specs.declared.Examination.{Examination}
 use Rattle.chart.specs.declared.Examination.the-variants.{Accepted, Refused}
 use Rattle.solver.specs.declared.summary.Summary.{Summary}
@@ -18,6 +19,19 @@ use Rattle.plate.specs.declared.Form.{Form}
 use Rattle.plate.specs.declared.Form.the-variants.{Good, Bad}
 use Rattle.plate.specs.declared.reading.Reading.{Reading}
 use Rattle.plate.specs.declared.reading.Reading.the-variants.{Rows, Refused as Turned, Short, Malformed}
+
+-- the refusal's number and line, as in document 01's table; 0 for an answer with rows
+abbrev pub readingNumber : Reading → ℕ
+readingNumber (Rows h) = 0
+readingNumber (Turned r) = refusalNumber r
+readingNumber Short = 10
+readingNumber (Malformed line) = 11
+
+abbrev pub readingLine : Reading → ℕ
+readingLine (Rows h) = 0
+readingLine (Turned r) = refusalLine r
+readingLine Short = 0
+readingLine (Malformed line) = line
 
 -- the answer to a plate that was examined
 unfoldable pub answerTo : List ℕ → Form → Reading

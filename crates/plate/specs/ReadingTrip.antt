@@ -1,7 +1,8 @@
 -- What Reading took (T11): the plate is of the form, the answer is its first line, and the rows, set out again, are the plate.
 use Prim.Native.Nat.{ℕ, _≤_}
 use native.Mathlib.Omega.{arith}
-use mathlib.Core.Path.{_≡_, refl, sym, _∙_, subst}
+use mathlib.Core.Path.{_≡_, refl, sym, ap, _∙_, subst}
+use mathlib.Core.Logic.{_↔_}
 use mathlib.Core.Bool.{Bool, true, false, _&&_}
 use mathlib.Core.List.{List}
 use lib.ListN.{length}
@@ -16,9 +17,9 @@ use Rattle.chart.specs.declared.Examination.the-variants.{Accepted, Refused}
 use Rattle.solver.specs.Summarize.{rowValue}
 use Rattle.solver.specs.declared.summary.Summary.{Summary}
 use Rattle.plate.specs.Text.{plateText}
-use Rattle.plate.specs.Form.{OfForm}
+use Rattle.plate.specs.Form.{OfForm, BadAt}
 use Rattle.plate.specs.Formed.{formOf}
-use Rattle.plate.specs.Exact.{form-exact}
+use Rattle.plate.specs.Exact.{form-exact, bad-line-exact}
 use Rattle.plate.specs.Read.{headerIn}
 use Rattle.plate.specs.RowTrip.{rows-set-out}
 use Rattle.plate.specs.Reading.{answerTo, readBy, reading, ReadingIs}
@@ -73,3 +74,28 @@ reading-set-out text plate values values′ choices choices′ steps steps′ r 
     let w = reading-took text plate (length values) (length choices) (length steps) h (sym (is .answer) ∙ taken) in
     rows-set-out (size (arenaOf text)) (few text (w .chart) (w .accepted)) plate h values values′ choices choices′ steps steps′ (w .form)
     (record { header = w .header; rows = is .taken h taken })
+
+-- Given an accepted chart and room, the answer is exact: 11 at line l just where l is the lowest bad line, rows just where the plate is
+-- of the form
+
+module _ (text plate : List ℕ) (values choices steps : ℕ) (chart : Chart) (accepted : examined text ≡ Accepted chart)
+    (room : (leb (chart .positions) values && (leb (chart .positions) choices && leb (chart .positions) steps)) ≡ true) where
+  answered : reading text plate values choices steps ≡ answerTo plate (formOf (chart .positions) plate)
+  unfolding reading readBy
+  answered = rw (accepted, room)
+
+  pub eleven-exact : (l : ℕ) → reading text plate values choices steps ≡ Malformed l ↔ BadAt (chart .positions) plate l
+  unfolding answerTo
+  eleven-exact l = (λ e. bad-line-exact (chart .positions) l plate .0 (go (formOf (chart .positions) plate) (sym answered ∙ e)), λ w. answered ∙ ap (answerTo plate) (bad-line-exact (chart .positions) l plate .1 w))
+    where
+      go : (f : Form) → answerTo plate f ≡ Malformed l → f ≡ Bad l
+      go Good e = let z : _≡_ {A = ℕ} 0 1 = cc in absurd (omega arith)
+      go (Bad k) e = let same : k ≡ l = cc in ap Bad same
+
+  pub taken-exact : reading text plate values choices steps ≡ Rows (headerIn plate) ↔ OfForm (chart .positions) plate
+  unfolding answerTo
+  taken-exact = (λ e. form-exact (chart .positions) plate .0 (go (formOf (chart .positions) plate) (sym answered ∙ e)), λ w. answered ∙ ap (answerTo plate) (form-exact (chart .positions) plate .1 w))
+    where
+      go : (f : Form) → answerTo plate f ≡ Rows (headerIn plate) → f ≡ Good
+      go Good e = refl
+      go (Bad k) e = let z : _≡_ {A = ℕ} 0 1 = cc in absurd (omega arith)

@@ -1,0 +1,134 @@
+-- The twelve charts at the edges (document 01, "Charts at the edges"), as texts, with what is expected of each, gathered into one list.
+use Prim.Native.Nat.{ℕ, _<_}
+use mathlib.Core.Path.{_≡_}
+use mathlib.Core.List.{List, [], _∷_, _++_}
+use lib.ListN.{length, getD}
+use Rattle.game.specs.Value.{Value, fin, ever, numberOf}
+use Rattle.game.specs.Arena.{Arena, size}
+use Rattle.game.specs.Worth.{IsValue}
+use Rattle.game.specs.Rounds.{Round, NeverPlaced}
+use Rattle.game.specs.Choice.{IsChoice}
+use Rattle.game.specs.Summary.{pairCount, highest, everCount}
+use Rattle.chart.specs.Meaning.{arenaOf, lineText}
+use Rattle.chart.specs.Examined.{examined}
+use Rattle.chart.specs.Refusals.{refusalNumber, refusalLine}
+use Rattle.chart.specs.declared.Chart.{Chart}
+use Rattle.chart.specs.declared.Refusal.{Refusal}
+use Rattle.chart.specs.declared.Examination.the-variants.{Accepted, Refused}
+
+-- what is expected: a refusal, or the plate's columns and the numbers of its first line
+pub data Expected : Type 0 where
+  refusal : (number line : ℕ) → Expected
+  plate : (values choices steps : List Value) (rounds : ℕ) (highest : Value) (evers : ℕ) → Expected
+
+pub record Edge : Type 0 where
+  pub text : List ℕ
+  pub expected : Expected
+
+-- an entry of an expected column
+abbrev pub entry : List Value → ℕ → Value
+entry column v = getD column v ever
+
+-- the pair of value and step at v, as the rounds give it
+abbrev pub PairIs : Arena → ℕ → Value → Value → Type 0
+PairIs a v (fin k) (fin s) = Round a k s v
+PairIs a v (fin k) ever = ⊥
+PairIs a v ever (fin s) = ⊥
+PairIs a v ever ever = NeverPlaced a v
+
+-- a plate is right: at every position the value by plays and controllers, the choice and the pair; and the first line's numbers
+pub record PlateHolds (text : List ℕ) (values choices steps : List Value) (rounds : ℕ) (top : Value) (evers : ℕ) : Type 0 where
+  pub chart : Chart
+  pub taken : examined text ≡ Accepted chart
+  pub sized : length values ≡ size (arenaOf text)
+  pub value : (v : ℕ) → v < size (arenaOf text) → IsValue (arenaOf text) v (entry values v)
+  pub choice : (v : ℕ) → v < size (arenaOf text) → IsChoice (arenaOf text) (entry values) v (entry choices v)
+  pub pair : (v : ℕ) → v < size (arenaOf text) → PairIs (arenaOf text) v (entry values v) (entry steps v)
+  pub rounds-counted : rounds ≡ pairCount (entry values) (entry steps) (size (arenaOf text))
+  pub highest-value : top ≡ highest (entry values) (size (arenaOf text))
+  pub evers-counted : evers ≡ everCount (entry values) (size (arenaOf text))
+
+-- a refusal with this number and line is answered
+pub record RefusalHolds (text : List ℕ) (number line : ℕ) : Type 0 where
+  pub refusal : Refusal
+  pub turned : examined text ≡ Refused refusal
+  pub number-is : refusalNumber refusal ≡ number
+  pub line-is : refusalLine refusal ≡ line
+
+abbrev pub Holds : List ℕ → Expected → Type 0
+Holds text (refusal number line) = RefusalHolds text number line
+Holds text (plate values choices steps rounds top evers) = PlateHolds text values choices steps rounds top evers
+
+-- lines of charts
+abbrev H : ℕ → ℕ → List ℕ
+H n m = lineText 72 n m
+
+abbrev O : ℕ → ℕ → List ℕ
+O v mark = lineText 79 v mark
+
+abbrev L : ℕ → ℕ → List ℕ
+L v mark = lineText 76 v mark
+
+abbrev M : ℕ → ℕ → List ℕ
+M v w = lineText 77 v w
+
+abbrev D : ℕ → ℕ → List ℕ
+D v w = lineText 68 v w
+
+-- chart a
+unfoldable pub documentChart : List ℕ
+documentChart = H 5 8 ++ O 0 0 ++ L 1 0 ++ O 2 0 ++ L 3 1 ++ O 4 0 ++ M 0 1 ++ D 0 2 ++ M 1 0 ++ M 2 0 ++ M 2 2 ++ D 2 3 ++ M 3 3 ++ M 4 4
+
+-- a to l, in document 01's order and words
+unfoldable pub edgeCharts : List Edge
+unfolding documentChart
+edgeCharts =
+    -- a: "the chart above"
+    record {
+      text = documentChart;
+      expected = plate (fin 2 ∷ fin 2 ∷ fin 1 ∷ fin 0 ∷ ever ∷ []) (fin 1 ∷ ever ∷ fin 0 ∷ ever ∷ fin 4 ∷ []) (fin 0 ∷ fin 1 ∷ fin 0 ∷ fin 0 ∷ ever ∷ []) 4 (fin 2) 1;
+    }
+    -- b: "L unsafe, M to itself: 0, step 0"
+    ∷ record { text = H 1 1 ++ L 0 1 ++ M 0 0; expected = plate (fin 0 ∷ []) (ever ∷ []) (fin 0 ∷ []) 1 (fin 0) 0 }
+    -- c: "O safe, M to itself: ever"
+    ∷ record { text = H 1 1 ++ O 0 0 ++ M 0 0; expected = plate (ever ∷ []) (fin 0 ∷ []) (ever ∷ []) 0 ever 1 }
+    -- d: "c with D to itself: ever"
+    ∷ record { text = H 1 2 ++ O 0 0 ++ M 0 0 ++ D 0 0; expected = plate (ever ∷ []) (fin 0 ∷ []) (ever ∷ []) 0 ever 1 }
+    -- e: "O, M to itself, D to unsafe 1: value 1"
+    ∷ record { text = H 2 3 ++ O 0 0 ++ L 1 1 ++ M 0 0 ++ D 0 1 ++ M 1 1; expected = plate (fin 1 ∷ fin 0 ∷ []) (fin 0 ∷ ever ∷ []) (fin 0 ∷ fin 0 ∷ []) 2 (fin 1) 0 }
+    -- f: "O with M and D to a safe L that stays: ever"
+    ∷ record { text = H 2 3 ++ O 0 0 ++ L 1 0 ++ M 0 1 ++ D 0 1 ++ M 1 1; expected = plate (ever ∷ ever ∷ []) (fin 1 ∷ ever ∷ []) (ever ∷ ever ∷ []) 0 ever 2 }
+    -- g: "L with M to itself and to unsafe 1: value 0, step 1"
+    ∷ record { text = H 2 3 ++ L 0 0 ++ L 1 1 ++ M 0 0 ++ M 0 1 ++ M 1 1; expected = plate (fin 0 ∷ fin 0 ∷ []) (ever ∷ ever ∷ []) (fin 1 ∷ fin 0 ∷ []) 2 (fin 0) 0 }
+    -- h: "O, its one M to unsafe 1: 0, step 1, choice 1"
+    ∷ record { text = H 2 2 ++ O 0 0 ++ L 1 1 ++ M 0 1 ++ M 1 1; expected = plate (fin 0 ∷ fin 0 ∷ []) (fin 1 ∷ ever ∷ []) (fin 1 ∷ fin 0 ∷ []) 2 (fin 0) 0 }
+    -- i: "O unsafe, its one M to a safe L that stays: 0, step 0, choice 1"
+    ∷ record { text = H 2 2 ++ O 0 1 ++ L 1 0 ++ M 0 1 ++ M 1 1; expected = plate (fin 0 ∷ ever ∷ []) (fin 1 ∷ ever ∷ []) (fin 0 ∷ ever ∷ []) 1 (fin 0) 1 }
+    -- j: "two safe L, each moving to the other: ever"
+    ∷ record { text = H 2 2 ++ L 0 0 ++ L 1 0 ++ M 0 1 ++ M 1 0; expected = plate (ever ∷ ever ∷ []) (ever ∷ ever ∷ []) (ever ∷ ever ∷ []) 0 ever 2 }
+    -- k: "refusal 9 above", n = 1, O, only D 0 0
+    ∷ record { text = H 1 1 ++ O 0 0 ++ D 0 0; expected = refusal 9 1 }
+    -- l: "refusal 8 above", M 0 0 twice
+    ∷ record { text = H 1 2 ++ O 0 0 ++ M 0 0 ++ M 0 0; expected = refusal 8 3 }
+    ∷ []
+
+-- chart a's plate, byte for byte as document 01 prints it
+unfoldable pub documentPlate : List ℕ
+documentPlate =
+    -- P    5    4    2    1
+    (80 ∷ 32 ∷ 32 ∷ 32 ∷ 32 ∷ 53 ∷ 32 ∷ 32 ∷ 32 ∷ 32 ∷ 52 ∷ 32 ∷ 32 ∷ 32 ∷ 32 ∷ 50 ∷ 32 ∷ 32 ∷ 32 ∷ 32 ∷ 49 ∷ 10 ∷ [])
+    ++
+    -- V    0    2    1    0
+    (86 ∷ 32 ∷ 32 ∷ 32 ∷ 32 ∷ 48 ∷ 32 ∷ 32 ∷ 32 ∷ 32 ∷ 50 ∷ 32 ∷ 32 ∷ 32 ∷ 32 ∷ 49 ∷ 32 ∷ 32 ∷ 32 ∷ 32 ∷ 48 ∷ 10 ∷ [])
+    ++
+    -- V    1    2    -    1
+    (86 ∷ 32 ∷ 32 ∷ 32 ∷ 32 ∷ 49 ∷ 32 ∷ 32 ∷ 32 ∷ 32 ∷ 50 ∷ 32 ∷ 32 ∷ 32 ∷ 32 ∷ 45 ∷ 32 ∷ 32 ∷ 32 ∷ 32 ∷ 49 ∷ 10 ∷ [])
+    ++
+    -- V    2    1    0    0
+    (86 ∷ 32 ∷ 32 ∷ 32 ∷ 32 ∷ 50 ∷ 32 ∷ 32 ∷ 32 ∷ 32 ∷ 49 ∷ 32 ∷ 32 ∷ 32 ∷ 32 ∷ 48 ∷ 32 ∷ 32 ∷ 32 ∷ 32 ∷ 48 ∷ 10 ∷ [])
+    ++
+    -- V    3    0    -    0
+    (86 ∷ 32 ∷ 32 ∷ 32 ∷ 32 ∷ 51 ∷ 32 ∷ 32 ∷ 32 ∷ 32 ∷ 48 ∷ 32 ∷ 32 ∷ 32 ∷ 32 ∷ 45 ∷ 32 ∷ 32 ∷ 32 ∷ 32 ∷ 48 ∷ 10 ∷ [])
+    ++
+    -- V    4 ever    4    -
+    (86 ∷ 32 ∷ 32 ∷ 32 ∷ 32 ∷ 52 ∷ 32 ∷ 101 ∷ 118 ∷ 101 ∷ 114 ∷ 32 ∷ 32 ∷ 32 ∷ 32 ∷ 52 ∷ 32 ∷ 32 ∷ 32 ∷ 32 ∷ 45 ∷ 10 ∷ [])

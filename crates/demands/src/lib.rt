@@ -1,0 +1,1 @@
+// This crate has no code: the demands and their proofs are in specs/.
