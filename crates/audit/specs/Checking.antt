@@ -18,34 +18,20 @@ use Rattle.plate.specs.declared.Form.the-variants.{Good, Bad}
 use Rattle.audit.specs.Verdict.{verdictOf}
 use Rattle.audit.specs.declared.rows.Verdict.{Verdict}
 use Rattle.audit.specs.declared.rows.Verdict.the-variants.{Sound, Fault}
+use Rattle.audit.specs.declared.Numbers.{Numbers}
 use Rattle.audit.specs.declared.Checked.{Checked}
 use Rattle.audit.specs.declared.Checked.the-variants.{Accepted, Refused, Form, Fault as Faulty}
 
--- "A refusal gives a number and a line, counted from 0 in the chart (1 to 9) or plate (11), else 0"; 0 if accepted
-abbrev pub checkedNumber : Checked → ℕ
-checkedNumber Accepted = 0
-checkedNumber (Refused r) = refusalNumber r
-checkedNumber (Form line) = 11
-checkedNumber (Faulty v c) = 14
+abbrev pub numbersFrom : (number line position condition : ℕ) → Numbers
+numbersFrom number line position condition = record { number = number; line = line; position = position; condition = condition }
 
-abbrev pub checkedLine : Checked → ℕ
-checkedLine Accepted = 0
-checkedLine (Refused r) = refusalLine r
-checkedLine (Form line) = line
-checkedLine (Faulty v c) = 0
-
--- "14 gives the fault's position and condition besides"
-abbrev pub faultPosition : Checked → ℕ
-faultPosition Accepted = 0
-faultPosition (Refused r) = 0
-faultPosition (Form line) = 0
-faultPosition (Faulty v c) = v
-
-abbrev pub faultCondition : Checked → ℕ
-faultCondition Accepted = 0
-faultCondition (Refused r) = 0
-faultCondition (Form line) = 0
-faultCondition (Faulty v c) = c
+-- "A refusal gives a number and a line, counted from 0 in the chart (1 to 9) or plate (11), else 0; 14 gives the fault's position
+-- and condition besides". All are 0 for an accepted plate.
+abbrev pub numbersOf : Checked → Numbers
+numbersOf Accepted = numbersFrom 0 0 0 0
+numbersOf (Refused r) = numbersFrom (refusalNumber r) (refusalLine r) 0 0
+numbersOf (Form line) = numbersFrom 11 line 0 0
+numbersOf (Faulty v c) = numbersFrom 14 0 v c
 
 -- the answer to a plate of the form
 abbrev pub answerOf : Verdict → Checked

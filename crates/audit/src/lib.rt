@@ -6,7 +6,7 @@ ghost use Rattle.solver.specs.Solve.{Within};
 ghost use Rattle.value.specs.Valuing.{Decodable};
 ghost use Rattle.plate.specs.Formed.{formOf};
 ghost use Rattle.audit.specs.Sheet.{Ascending};
-ghost use Rattle.audit.specs.Checking.{PlateIs, checked};
+ghost use Rattle.audit.specs.Checking.{PlateIs, checked, numbersFrom, numbersOf};
 use crate::rows::Verdict;
 use crate::rows::check_rows;
 use chart::Examination;
@@ -25,6 +25,38 @@ pub enum Checked {
     Refused(Refusal),
     Form(usize),
     Fault(usize, u8),
+}
+
+// An answer in the refusal table's numbers, 0 where it has none.
+pub struct Numbers {
+    pub number: u32,
+    pub line: usize,
+    pub position: usize,
+    pub condition: u8,
+}
+
+impl Checked {
+    pub fn numbers(self) -> Numbers
+        ensures { λ r. ⌜ r ≡ numbersOf self ⌝ }
+    {
+        match self {
+            Checked::Accepted => numbers_of(0, 0, 0, 0),
+            Checked::Refused(r) => numbers_of(r.number(), r.line(), 0, 0),
+            Checked::Form(line) => numbers_of(11, line, 0, 0),
+            Checked::Fault(position, condition) => numbers_of(14, 0, position, condition),
+        }
+    }
+}
+
+fn numbers_of(number: u32, line: usize, position: usize, condition: u8) -> Numbers
+    ensures { λ r. ⌜ r ≡ numbersFrom number line position condition ⌝ }
+{
+    Numbers {
+        number,
+        line,
+        position,
+        condition,
+    }
 }
 
 pub fn check(text: &[u8], plate: &[u8]) -> Checked

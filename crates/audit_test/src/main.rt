@@ -2,7 +2,6 @@
 // condition in the plate's columns, and what the plate is. `stdout` has what document 01 says of each.
 ghost use mathlib.Core.Path.{_≡_};
 ghost use lib.ListN.{length};
-use audit::Checked;
 
 fn main() {
     good_plates();
@@ -18,12 +17,15 @@ fn main() {
 
 // The answer for a chart and a plate.
 fn show(name: &[u8], text: &[u8], plate: &[u8]) {
-    match audit::check(text, plate) {
-        Checked::Accepted => line(b'A', 0, 0, 0, 0),
-        Checked::Refused(r) => line(b'R', r.number() as usize, r.line(), 0, 0),
-        Checked::Form(l) => line(b'R', 11, l, 0, 0),
-        Checked::Fault(v, c) => line(b'R', 14, 0, v, c as usize),
-    }
+    let r = audit::check(text, plate).numbers();
+    let letter = if r.number == 0 { b'A' } else { b'R' };
+    line(
+        letter,
+        r.number as usize,
+        r.line,
+        r.position,
+        r.condition as usize,
+    );
     io::write_all(1, name);
     io::write_all(1, b"\n");
 }
