@@ -1,4 +1,4 @@
--- T12: "An accepted plate has the right values and an optimal controller, whoever made it. With right values and any optimal
+-- "An accepted plate has the right values and an optimal controller, whoever made it. With right values and any optimal
 -- positional controller, the steps above make a plate that is accepted."
 use Prim.Native.Nat.{ℕ}
 use mathlib.Core.Path.{_≡_}

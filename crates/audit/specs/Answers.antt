@@ -1,4 +1,4 @@
--- T12 over the bytes: each answer of Checking is given exactly when its condition holds. These are the conditions.
+-- Each answer of Checking is given exactly when its condition holds. These are the conditions.
 use Prim.Native.Nat.{ℕ}
 use mathlib.Core.Path.{_≡_}
 use mathlib.Core.List.{List}

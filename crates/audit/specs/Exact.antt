@@ -1,4 +1,4 @@
--- T12: a plate's rows are sound exactly when they have the certificate and the header's numbers are those of the lines; else
+-- a plate's rows are sound exactly when they have the certificate and the header's numbers are those of the lines; else
 -- the answer is exactly the first fault, "positions from 0 up and in each the conditions in order".
 use Prim.Native.Nat.{ℕ, zero, suc, _<_}
 use native.Mathlib.Omega.{arith}

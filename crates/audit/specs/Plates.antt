@@ -1,4 +1,4 @@
--- T12 over the bytes: "An accepted plate has the right values and an optimal controller, whoever made it. With right values and
+-- "An accepted plate has the right values and an optimal controller, whoever made it. With right values and
 -- any optimal positional controller, the steps above make a plate that is accepted", its first line counted.
 use Prim.Native.Nat.{ℕ, _≤_, _<_}
 use native.Mathlib.Omega.{arith}

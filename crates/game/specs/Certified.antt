@@ -1,4 +1,4 @@
--- T3, whole: under a certificate the values are right, and the one controller of its choices has them as its worths at
+-- Under a certificate the values are right, and the one controller of its choices has them as its worths at
 -- every position at once. The two halves are put together.
 use Prim.Native.Nat.{ℕ, _<_}
 use Rattle.game.specs.Value.{Value}

@@ -1,4 +1,4 @@
--- T18, first part: every finite play of a controller in a well-formed arena is a prefix of an unending one that is consistent
+-- Every finite play of a controller in a well-formed arena is a prefix of an unending one that is consistent
 -- with it and has no further disturbance. The unending play is given by the trails that it passes; those up to the finite play
 -- are its own prefixes, and from there on some move of the controller or of the environment is added, again and again.
 use Prim.Native.Nat.{ℕ, zero, suc, _+_, _≤_, _<_}

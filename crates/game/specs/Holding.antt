@@ -1,4 +1,4 @@
--- The lower half of T3: no move of a play takes the value plus the cost so far below what it was. It is shown for one
+-- The lower half of what a certificate gives: no move of a play takes the value plus the cost so far below what it was. It is shown for one
 -- move, from the conditions at the one position that it leaves; then for every play of a controller, with any memory, that
 -- keeps the values. So such a controller is worth at least the value where it starts.
 use Prim.Native.Nat.{ℕ, _+_}

@@ -1,4 +1,4 @@
--- T4: controllers exist in every well-formed arena; and "every controller" isn't only the positional ones: in a small
+-- controllers exist in every well-formed arena; and "every controller" isn't only the positional ones: in a small
 -- arena there is one whose pick at a position depends on whether a disturbance led there.
 use Prim.Native.Nat.{ℕ, zero, suc, _<_}
 use native.Mathlib.Decide.{decLt}

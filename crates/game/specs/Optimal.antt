@@ -1,6 +1,6 @@
 -- Optimal controllers, two ways that are the same where every position has a value: its worths are the values; no controller
 -- is worth more anywhere. The choices of a positional one don't fall: a cheap unsafe play from the target would be one from the
--- position. So right values with any optimal positional controller, and the steps of any certificate, are a certificate (T7).
+-- position. So right values with any optimal positional controller, and the steps of any certificate, are a certificate.
 use Prim.Native.Nat.{ℕ, _<_}
 use mathlib.Core.Path.{_≡_, refl, sym, subst}
 use mathlib.Core.Logic.{_↔_}
@@ -79,7 +79,7 @@ module _ (a : Arena) (choice : ℕ → Value) (legal : Legal a choice) where
       let at-most = at-most-target v (value w) inside own (worth-is-both-bounds a σ w (value w) .0 there .1) in
       bounds-in-order a σ v (value v) (value w) at-least at-most
 
--- T7 over the steps of any certificate
+-- right values and any optimal choices, over the steps of any certificate
 pub optimal-choices-have-certificate :
     (a : Arena) (wf : WellFormed a) (value choice step value′ choice′ step′ : ℕ → Value)
     → Certificate a value choice step

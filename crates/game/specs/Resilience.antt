@@ -1,4 +1,4 @@
--- T18: the journal's resilience is the value. A controller is k-resilient exactly when no finite play that costs less than k is
+-- the journal's resilience is the value. A controller is k-resilient exactly when no finite play that costs less than k is
 -- unsafe, and ω-resilient exactly when (ω+1)-resilient: prefixes of unending plays are plays, and plays extend to unending ones.
 -- Strategies of the journal are blind to the bits; a positional controller is one.
 use Prim.Native.Nat.{ℕ, zero, suc, _<_, suc-le-suc}
@@ -172,7 +172,7 @@ module _
               resilience-bounded a wf (τ .acts) v (value v) β at-most resilient;
         }
 
-    -- T18: a value is the journal's resilience
+    -- a value is the journal's resilience
     pub value-is-resilience : (x : Value) → IsValue a v x ↔ ResilienceIs a v (ordinalOf x)
     value-is-resilience x =
         let here = certificate-gives-resilience in

@@ -1,4 +1,4 @@
--- T8: in the arena restricted to a legal row of choices, every controller has exactly the plays that the row's controller has
+-- in the arena restricted to a legal row of choices, every controller has exactly the plays that the row's controller has
 -- in the whole arena, safe or unsafe alike and at the same cost. So a value there is that controller's worth here.
 use Prim.Native.Nat.{ℕ}
 use mathlib.Core.Path.{_≡_, refl, sym, ap, subst, _∙_}
@@ -165,7 +165,7 @@ module _ (a : Arena) (choice : ℕ → Value) where
           back v u = record { trail = u .trail; play = restricted-play v (u .trail) .1 (u .play); ends = restricted-unsafe v (u .trail) .1 (u .ends) }
       restricted-at-most v ever = (λ h. tt, λ h. tt)
 
-    -- T8
+    -- the values there are the worths of the row's controller in the whole arena
     pub restricted-value-is-worth : (v : ℕ) (x : Value) → IsValue (restricted a choice) v x ↔ WorthIs a (positional a choice legal) v x
     restricted-value-is-worth v x =
         let σ = positional a choice legal in

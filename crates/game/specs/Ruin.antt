@@ -1,4 +1,4 @@
--- The upper half of T3: against every controller some play, along which the value plus the cost never rises, comes to an
+-- The upper half of what a certificate gives: against every controller some play, along which the value plus the cost never rises, comes to an
 -- unsafe position, where the value is 0. So it costs at most the value at the start. The play is found by condition 5: each
 -- move of it is a disturbance to a smaller value, or leads to an earlier position; so the search ends, by induction on
 -- a bound of the value and, within it, on a bound of the step.

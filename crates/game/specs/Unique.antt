@@ -1,4 +1,4 @@
--- T4: worths and values are unique, and "some controller stays safe .. and against each controller .." (`IsValue`) says the
+-- worths and values are unique, and "some controller stays safe .. and against each controller .." (`IsValue`) says the
 -- same as "the greatest worth any controller has there" (`Greatest`). All from the order of the bounds. One controller for
 -- all positions at once attains every value: `certificate-gives-worths` of Certified.
 use Prim.Native.Nat.{ℕ}

@@ -1,4 +1,4 @@
--- Reading and writing a plate's entry are each other's inverse (T1): five bytes read as a number, as `-` or as `ever` exactly when they
+-- Reading and writing a plate's entry are each other's inverse: five bytes read as a number, as `-` or as `ever` exactly when they
 -- are its bytes. Numbers go by the field's law; the two words are no numbers, and are compared byte by byte.
 use Prim.Native.Nat.{ℕ, _+_, _≤_}
 use native.Mathlib.Omega.{arith}
@@ -64,7 +64,7 @@ read-entry-stands bytes e l good q = go (fieldOf bytes) refl (sameText bytes das
     go Wrong p false true s t = is Ever (simp (p, s, t)) (same-text bytes everText t, tt)
     go Wrong p false false s t = let bad : entryOf bytes ≡ Bad = simp (p, s, t) in absurd (good (sym q ∙ bad))
 
--- T1 for plates: five bytes read as a number, `-` or `ever` exactly when they are the bytes that writing it makes
+-- five bytes read as a number, `-` or `ever` exactly when they are the bytes that writing it makes
 pub entry-exact : (bytes : List ℕ) (e : Entry) → length bytes ≡ 5 → (e ≡ Bad → ⊥) → entryOf bytes ≡ e ↔ (bytes ≡ entryText e) × Writable e
 entry-exact bytes e l good = (read-entry-stands bytes e l good, λ w. ap entryOf (w .0) ∙ written-entry-reads e (w .1))
 

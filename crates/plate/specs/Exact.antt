@@ -1,4 +1,4 @@
--- The computed form is exact (T11): `Good` is answered of just the plates of the form, and line l exactly when 11 has it. Each test
+-- The computed form is exact: `Good` is answered of just the plates of the form, and line l exactly when 11 has it. Each test
 -- decides its condition; from an answer its condition follows, and the conditions exclude each other, so the converse holds too.
 use Prim.Native.Nat.{ℕ, zero, suc, _+_, _*_, _≤_, _<_}
 use native.Mathlib.Omega.{arith}
@@ -169,7 +169,7 @@ bad-once n k l text (badLine s i f b) (badLine t j g c) = go (decLt k l) (decLt 
     go (no h) (yes h′) = absurd (g (b l h′))
     go (no h) (no h′) = omega arith
 
--- T11: 11 is answered at line l exactly when l is the lowest bad line, the length first, and never of a plate of the form
+-- 11 is answered at line l exactly when l is the lowest bad line, the length first, and never of a plate of the form
 pub form-exact : (n : ℕ) (text : List ℕ) → formOf n text ≡ Good ↔ OfForm n text
 form-exact n text = (good-form n text, λ w. go w (formOf n text) refl)
   where

@@ -1,4 +1,4 @@
--- What Reading took (T11): the plate is of the form, the answer is its first line, and the rows, set out again, are the plate.
+-- What Reading took: the plate is of the form, the answer is its first line, and the rows, set out again, are the plate.
 use Prim.Native.Nat.{ℕ, _≤_}
 use native.Mathlib.Omega.{arith}
 use mathlib.Core.Path.{_≡_, refl, sym, ap, _∙_, subst}
@@ -66,7 +66,7 @@ reading-took text plate values choices steps h e = examination (examined text) r
 few : (text : List ℕ) (chart : Chart) → examined text ≡ Accepted chart → size (arenaOf text) ≤ 512
 few text chart p = accepted-chartable text chart p .few-positions
 
--- T11: "Set out again as plate lines, these are the same bytes"
+-- "Set out again as plate lines, these are the same bytes"
 pub reading-set-out : (text plate values values′ choices choices′ steps steps′ : List ℕ) (r : Reading) (h : Summary) →
     ReadingIs text plate values values′ choices choices′ steps steps′ r → r ≡ Rows h →
     plateText (size (arenaOf text)) h (rowValue values′) (rowValue choices′) (rowValue steps′) ≡ plate

@@ -1,4 +1,4 @@
--- Reading and setting out are each other's inverse (T11): what is read from a plate of the form, set out again, is its very bytes; and
+-- Reading and setting out are each other's inverse: what is read from a plate of the form, set out again, is its very bytes; and
 -- every header and columns in range, set out, are of the form and read back as themselves. Line by line: a line's columns say its
 -- bytes, and its bytes its columns.
 use Prim.Native.Nat.{ℕ, zero, suc, _+_, _*_, _≤_, _<_}
@@ -109,7 +109,7 @@ module _ (n : ℕ) (text : List ℕ) (small : n ≤ 512) (form : OfForm n text) 
       ∙ ap₂ (λ (x y : List ℕ). x ++ y) (lines-so-far v (omega arith)) (position-bytes v l)
       ∙ append-assoc (headerLine n (headerIn text)) (positionLines (valueIn text) (choiceIn text) (stepIn text) v) (positionLine v (valueIn text v) (choiceIn text v) (stepIn text v))
 
-  -- T11: "Set out again as plate lines, these are the same bytes"
+  -- "Set out again as plate lines, these are the same bytes"
   pub writing-undoes-reading : plateText n (headerIn text) (valueIn text) (choiceIn text) (stepIn text) ≡ text
   unfolding plateText
   writing-undoes-reading = sym (lines-so-far n (omega arith)) ∙ take-all ((n + 1) * 22) text (omega (arith, form .size))
@@ -189,7 +189,7 @@ module _ (n : ℕ) (h : Summary) (value choice step : ℕ → Value) (small : n 
             end = c .end;
           }
 
-  -- T11: what is set out is read back
+  -- what is set out is read back
   pub reading-undoes-writing : ReadsAs n (plateText n h value choice step) h value choice step
   unfolding headerIn valueIn choiceIn stepIn secondAt thirdAt fourthAt entryValue numberOf
   reading-undoes-writing = record {

@@ -46,7 +46,7 @@ pub record RowsBack (n : ℕ) (h r : Summary) (value choice step : ℕ → Value
   pub step-row : RowIs steps n (λ v. numberOf (step v))
 
 module _ (n : ℕ) (small : n ≤ 512) where
-  -- T11 for rows: "Set out again as plate lines, these are the same bytes"
+  -- of rows: "Set out again as plate lines, these are the same bytes"
   pub rows-set-out : (text : List ℕ) (r : Summary) (values₀ values choices₀ choices steps₀ steps : List ℕ) → OfForm n text →
       RowsRead n text r values₀ values choices₀ choices steps₀ steps → plateText n r (rowValue values) (rowValue choices) (rowValue steps) ≡ text
   rows-set-out text r values₀ values choices₀ choices steps₀ steps form w =
@@ -58,7 +58,7 @@ module _ (n : ℕ) (small : n ≤ 512) where
       (row-column steps n (stepIn text) (w .rows .step .row) (λ v l. below-fits 512 _ (omega arith) (range .step-in v l)))
       ∙ writing-undoes-reading n text small form
 
-  -- T11 for rows: what is set out and read comes back
+  -- of rows: what is set out and read comes back
   pub rows-read-back : (h r : Summary) (value choice step : ℕ → Value) (values₀ values choices₀ choices steps₀ steps : List ℕ) → InRange n h value choice step →
       RowsRead n (plateText n h value choice step) r values₀ values choices₀ choices steps₀ steps → RowsBack n h r value choice step values choices steps
   rows-read-back h r value choice step values₀ values choices₀ choices steps₀ steps range w =

@@ -54,7 +54,7 @@ fn choose_by(
     }
 }
 
-// The choice of each position by a row of values: one walk over the moves.
+// The choice of each position by a row of values: one walk over the moves. The bounds keep every index within its row.
 pub fn choose(
     n: usize,
     m: usize,

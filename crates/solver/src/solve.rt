@@ -11,7 +11,7 @@ ghost use Rattle.solver.specs.Solve.{AtMove, Placing, PlacingAt, Within,
 // The value and the step of a position that is not placed, and of one that never is: "ever" and the dash.
 pub const NONE: u16 = 65535;
 
-// The first n numbers become NONE.
+// The first n numbers become NONE. The bound keeps them within the row.
 pub fn clear(n: usize, row: &mut [u16])
     requires { ⌜ n ≤ length (now row) ⌝ }
     ensures { λ _. ⌜ Filled (now (row .entry)) (now (row .exit)) n (λ v. 65535) ⌝ }
@@ -145,6 +145,7 @@ fn flag_disturbed_by(
     }
 }
 
+// Every flag is 0: no move has been seen. The bound keeps the n flags within the row.
 pub fn flag_none(n: usize, flags: &mut [u8])
     requires { ⌜ n ≤ length (now flags) ⌝ }
     ensures { λ _. ⌜ Filled (now (flags .entry)) (now (flags .exit)) n (λ v. 0) ⌝ }
@@ -253,7 +254,8 @@ fn next_value(
     count
 }
 
-// Values and steps by rounds: 65,535 for "ever" and its dash.
+// Values and steps by rounds: 65,535 for "ever" and its dash. The bounds keep every index within its row; a caller with rows of a
+// decoded chart meets them. What lies past the n-th number stays.
 pub fn solve(
     n: usize,
     m: usize,

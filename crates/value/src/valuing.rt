@@ -70,7 +70,8 @@ pub fn value_chart(
     }
 }
 
-// Values decoded rows, and sums up the first line's numbers.
+// Values decoded rows, and sums up the first line's numbers. The rows hold a well-formed chart, as those that `load` fills do; the
+// bounds keep every index within its row.
 pub fn value_rows(
     n: usize,
     m: usize,

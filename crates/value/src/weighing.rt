@@ -59,7 +59,8 @@ pub fn weigh_chart(text: &[u8], choices: &[u16], worths: &mut [u16]) -> Weighed
     }
 }
 
-// Weighs decoded rows by the solver, over the moves that stay; or answers that a choice is not legal.
+// Weighs decoded rows by the solver, over the moves that stay; or answers that a choice is not legal. The bounds keep every index
+// within its row.
 pub fn weigh_rows(
     n: usize,
     m: usize,

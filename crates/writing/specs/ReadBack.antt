@@ -1,4 +1,4 @@
--- A plate that Writing made, read (T11): it is in the plate's range, so it is of the form and Reading takes it, and the first line's
+-- A plate that Writing made, read: it is in the plate's range, so it is of the form and Reading takes it, and the first line's
 -- numbers and the rows are what Valuing gives.
 use Prim.Native.Nat.{ℕ, _≤_, _<_}
 use native.Mathlib.Omega.{arith}
@@ -99,7 +99,7 @@ module _ (text : List ℕ) (chart : Chart) (accepted : examined text ≡ Accepte
       subst (λ (n : ℕ). formOf n (plateOf (arenaOf text)) ≡ Good) (accepted-size text chart accepted) (form-exact (size (arenaOf text)) (plateOf (arenaOf text)) .1 written-is-of-form) in
       rw (accepted, room, good) (ap Rows (written-reads .header))
 
--- T11: "from a plate that Writing made, they are what Valuing gives"
+-- "from a plate that Writing made, they are what Valuing gives"
 pub reading-gives-valuing : (text values values′ choices choices′ steps steps′ : List ℕ) (r : Reading) (h : Summary) →
     ReadingIs text (plateOf (arenaOf text)) values values′ choices choices′ steps steps′ r → r ≡ Rows h →
     (h ≡ summaryOf (arenaOf text)) × PlateRows (arenaOf text) (size (arenaOf text)) values values′ choices choices′ steps steps′
