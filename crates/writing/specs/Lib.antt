@@ -1,5 +1,5 @@
 pub mod Writing
-pub mod WritingLaws
 pub mod Response
-pub mod ResponseLaws
 pub mod ReadBack
+pub mod WritingLaws
+pub mod ResponseLaws

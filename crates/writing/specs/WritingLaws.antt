@@ -1,18 +1,14 @@
 -- The plate of valued rows is the arena's plate, and the job's answers.
-use Prim.Native.Nat.{ℕ, zero, suc, _+_, _*_, _≤_, _<_}
+use Prim.Native.Nat.{ℕ, _+_, _*_, _≤_, _<_}
 use native.Mathlib.Omega.{arith}
-use mathlib.Core.Path.{_≡_, refl, sym, ap, ap₂, subst, _∙_}
+use mathlib.Core.Path.{_≡_, refl, ap, _∙_}
 use mathlib.Core.Bool.{Bool, true, false, cond}
-use mathlib.Core.List.{List, [], _∷_, _++_}
-use lib.ListN.{length, getD, drop}
+use mathlib.Core.List.{List, _++_}
+use lib.ListN.{length, drop}
 use lib.Dec.{leb}
-use Rattle.game.specs.Value.{Value, fin, ever, numberOf, valueOf}
-use Rattle.game.specs.ValueLaws.{Fits, value-of-number}
-use Rattle.game.specs.Arena.{Arena, Owner, controller, environment, WellFormed, size, positionAt, ownerAt, meantMove}
-use Rattle.game.specs.Play.{LegalAs}
+use Rattle.game.specs.Arena.{Arena, size, positionAt}
 use Rattle.game.specs.Table.{roundValue, roundStep}
 use Rattle.game.specs.Best.{bestAt}
-use Rattle.game.specs.BestLaws.{best-is-legal}
 use Rattle.chart.specs.Rows.{RowIs}
 use Rattle.chart.specs.Meaning.{arenaOf}
 use Rattle.chart.specs.Examined.{examined}
@@ -25,26 +21,14 @@ use Rattle.solver.specs.Summarize.{rowValue}
 use Rattle.value.specs.Valuing.{PlateRows, PlateSummary, RowsValued}
 use Rattle.value.specs.ValuingLaws.{round-value-fits, round-step-fits}
 use Rattle.solver.specs.declared.summary.Summary.{Summary}
-use Rattle.plate.specs.Text.{plateText, headerLine, positionLine, positionLines}
+use Rattle.plate.specs.Text.{plateText}
+use Rattle.plate.specs.RangeLaws.{below-fits}
+use Rattle.plate.specs.RowTrip.{plate-same, row-column}
 use Rattle.writing.specs.Writing.{summaryOf, plateOf, PlateWritten, written, writtenBy, WrittenIs}
+use Rattle.writing.specs.ReadBack.{arena-in-range}
 use Rattle.writing.specs.declared.Written.the-variants.{Length, Refused as Turned, Short}
 
--- rows that agree below n have the same lines
-lines-same : (f f′ c c′ s s′ : ℕ → Value) (n : ℕ) → ((v : ℕ) → v < n → f v ≡ f′ v) → ((v : ℕ) → v < n → c v ≡ c′ v) → ((v : ℕ) → v < n → s v ≡ s′ v)
-    → positionLines f c s n ≡ positionLines f′ c′ s′ n
-unfolding positionLines
-lines-same f f′ c c′ s s′ zero h k l = refl
-lines-same f f′ c c′ s s′ (suc n) h k l =
-    rw (lines-same f f′ c c′ s s′ n (λ v m. h v (omega arith)) (λ v m. k v (omega arith)) (λ v m. l v (omega arith)), h n (omega arith), k n (omega arith), l n (omega arith))
-
--- a choice is a position or the dash
-best-fits : (a : Arena) → WellFormed a → size a ≤ 512 → (v : ℕ) → v < size a → Fits (bestAt a (roundValue a) v)
-best-fits a wf few v l = go (ownerAt a v) (bestAt a (roundValue a) v) (best-is-legal a (roundValue a) wf v l)
-  where
-    go : (o : Owner) (x : Value) → LegalAs o a v x → Fits x
-    go controller x h = subst Fits (sym (h .1)) (let w = wf .to-position (meantMove v (h .0)) (h .2) in omega arith)
-    go environment x h = subst Fits (sym h) tt
-
+-- the counted numbers are the arena's
 summary-is : (a : Arena) (n : ℕ) (s : Summary) → size a ≡ n → PlateSummary a n s → s ≡ summaryOf a
 unfolding summaryOf
 summary-is a n s p h =
@@ -57,21 +41,21 @@ module _ {n m : ℕ} {owners marks costs froms tos values values′ choices choi
     (valued : RowsValued n m owners marks costs froms tos values values′ choices choices′ steps steps′ s)
     (bytes : out′ ≡ plateText n s (rowValue values′) (rowValue choices′) (rowValue steps′) ++ drop ((n + 1) * 22) out) where
   pub plate-written : PlateWritten n m owners marks costs froms tos out out′
-  unfolding plateOf plateText
+  unfolding plateOf
   plate-written = record { bytes = λ a d marked. bytes ∙ ap (λ (p : List ℕ). p ++ drop ((n + 1) * 22) out) (same a d marked) }
     where
       same : (a : Arena) → Decoded a n m owners costs froms tos → RowIs marks n (λ v. positionAt a v .mark)
-          → headerLine n s ++ positionLines (rowValue values′) (rowValue choices′) (rowValue steps′) n ≡ headerLine (size a) (summaryOf a) ++ positionLines (roundValue a) (bestAt a (roundValue a)) (roundStep a) (size a)
+          → plateText n s (rowValue values′) (rowValue choices′) (rowValue steps′) ≡ plateText (size a) (summaryOf a) (roundValue a) (bestAt a (roundValue a)) (roundStep a)
       same a d marked =
           let p = d .positions in
           let few : size a ≤ 512 = omega arith in
           let rows = valued .rows a d marked in
+          let range = arena-in-range a (d .well) few in
           rw (p, summary-is a n s p (valued .summary a d marked))
-          (ap (λ (t : List ℕ). headerLine n (summaryOf a) ++ t)
-          (lines-same (rowValue values′) (roundValue a) (rowValue choices′) (bestAt a (roundValue a)) (rowValue steps′) (roundStep a) n
-          (λ v l. ap valueOf (rows .value .row v l) ∙ value-of-number (roundValue a v) (round-value-fits a (d .well) few v))
-          (λ v l. ap valueOf (rows .choice .row v l) ∙ value-of-number (bestAt a (roundValue a) v) (best-fits a (d .well) few v (omega arith)))
-          (λ v l. ap valueOf (rows .step .row v l) ∙ value-of-number (roundStep a v) (round-step-fits a (d .well) few v))))
+          (plate-same n (summaryOf a) _ (roundValue a) _ (bestAt a (roundValue a)) _ (roundStep a)
+          (row-column values′ n (roundValue a) (rows .value .row) (λ v l. round-value-fits a (d .well) few v))
+          (row-column choices′ n (bestAt a (roundValue a)) (rows .choice .row) (λ v l. below-fits (size a) _ (omega arith) (range .choice-in v (omega arith))))
+          (row-column steps′ n (roundStep a) (rows .step .row) (λ v l. round-step-fits a (d .well) few v)))
 
 -- The answers
 
