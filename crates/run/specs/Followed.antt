@@ -3,28 +3,25 @@
 -- carries the bound over.
 use Prim.Native.Nat.{ℕ, _+_, _<_}
 use native.Mathlib.Omega.{arith}
-use native.Mathlib.Nat.{lt-of-lt-of-le}
-use mathlib.Core.Path.{_≡_, refl, sym, ap, subst, _∙_}
+use mathlib.Core.Path.{_≡_, refl, sym, ap, subst}
 use mathlib.Core.Bool.{Bool, true, false, cond}
 use mathlib.Core.List.{List, [], _∷_}
 use lib.Dec.{ltb}
 use borrow.Author.Tests.{ltb-true}
-use Rattle.game.specs.Value.{Value, fin, numberOf, valueOf, _≼_, _≺_, _⊕_}
+use Rattle.game.specs.Value.{Value, fin, valueOf, _≼_, _≺_, _⊕_}
 use Rattle.game.specs.ValueLaws.{⊕zero, ≡→≼, value-of-number}
 use Rattle.game.specs.Arena.{Arena, size, ownerAt, WellFormed, Meant as Meant′, Disturbance as Disturbance′}
-use Rattle.game.specs.Play.{Trail, still, meant, disturbed, last, cost, Allows, targetOf, Play, Unsafe, Legal, positional}
+use Rattle.game.specs.Play.{Trail, still, meant, disturbed, last, cost, Allows, targetOf, Play, Legal, positional}
 use Rattle.game.specs.PlayLaws.{disturbance-costs-one, positional-pick, stays-inside}
-use Rattle.game.specs.Certificate.{CertifiedAt, Certificate}
+use Rattle.game.specs.Certificate.{CertifiedAt}
 use Rattle.game.specs.Certified.{certificate-is-legal}
 use Rattle.game.specs.Holding.{choices-keep, chosen-move-holds, disturbance-holds, keeping-is-safe}
 use Rattle.chart.specs.Meaning.{arenaOf}
 use Rattle.chart.specs.Examined.{examined}
 use Rattle.chart.specs.Accepted.{accepted-chartable, accepted-size}
-use Rattle.chart.specs.declared.Chart.{Chart}
 use Rattle.chart.specs.declared.Examination.{Examination}
 use Rattle.chart.specs.declared.Examination.the-variants.{Accepted as Taken, Refused as Turned}
 use Rattle.plate.specs.Formed.{formOf}
-use Rattle.plate.specs.Range.{Below}
 use Rattle.plate.specs.RangeLaws.{below-fits}
 use Rattle.plate.specs.RoundTrip.{read-in-range}
 use Rattle.plate.specs.Read.{valueIn, choiceIn, stepIn}
@@ -44,10 +41,8 @@ use Rattle.run.specs.declared.moves.Kind.{Kind}
 use Rattle.run.specs.declared.moves.Kind.the-variants.{Meant, Disturbance, Neither}
 use Rattle.run.specs.declared.Run.{Run}
 use Rattle.run.specs.declared.Advice.{Advice}
-use Rattle.run.specs.declared.Answer.{Answer}
-use Rattle.run.specs.declared.Answer.the-variants.{Refused, Form, Position, Move, Count, Taken as Went}
+use Rattle.run.specs.declared.Answer.the-variants.{Position, Count}
 use Rattle.run.specs.declared.Reported.{Reported}
-use Rattle.run.specs.declared.Started.{Started}
 use Rattle.run.specs.declared.Started.the-variants.{Begun, Fault, Position as Outside}
 
 -- What one report does to the run, and to a trail: nothing, or it adds a meant move or a disturbance that may follow

@@ -4,7 +4,7 @@ use Prim.Native.Nat.{ℕ}
 use mathlib.Core.Path.{_≡_}
 use mathlib.Core.List.{List, [], _∷_}
 use Rattle.game.specs.Value.{fin, valueOf, _≼_, _≺_, _⊕_}
-use Rattle.game.specs.Play.{Trail, still, meant, disturbed, last, cost, Play, Unsafe, Legal, positional}
+use Rattle.game.specs.Play.{Trail, meant, disturbed, last, cost, Play, Unsafe, Legal, positional}
 use Rattle.chart.specs.Meaning.{arenaOf}
 use Rattle.plate.specs.Read.{valueIn, choiceIn}
 use Rattle.run.specs.Moves.{moveKind}

@@ -10,10 +10,10 @@ use lib.Dec.{T, eqb, eqb→eq, eqb-refl}
 use borrow.Author.Tests.{eq-eqb, ne-eqb}
 use Rattle.game.specs.Value.{Value, fin, ever, eqV, numberOf}
 use Rattle.game.specs.ValueLaws.{fin-is-not-ever, fin-injective}
-use Rattle.game.specs.Arena.{Arena, Move, Owner, controller, environment, ownerAt, moveAt, Meant, Disturbance}
+use Rattle.game.specs.Arena.{Arena, Owner, controller, environment, ownerAt, moveAt, Meant, Disturbance}
 use Rattle.game.specs.Play.{Allows, targetOf}
-use Rattle.game.specs.Table.{someMove, meantFrom, disturbanceFrom}
-use Rattle.game.specs.MoveTests.{some-meant, some-disturbance, is-true, and-left, and-right, and-both}
+use Rattle.game.specs.Table.{meantFrom, disturbanceFrom}
+use Rattle.game.specs.MoveTests.{some-meant, some-disturbance, and-left, and-right, and-both}
 use Rattle.chart.specs.Rows.{ownerNumber}
 use Rattle.solver.specs.RowLaws.{found, numberAt}
 use Rattle.solver.specs.Held.{Decoded}

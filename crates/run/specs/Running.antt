@@ -1,7 +1,7 @@
 -- Start and report (document 01, "The run" and the refusal table): what each answers to any two texts and, for a report, any run.
 use Prim.Native.Nat.{ℕ, _+_, _≤_}
 use mathlib.Core.Path.{_≡_}
-use mathlib.Core.Bool.{Bool, cond}
+use mathlib.Core.Bool.{cond}
 use mathlib.Core.List.{List}
 use lib.Dec.{ltb}
 use Rattle.game.specs.Value.{numberOf}

@@ -1,11 +1,9 @@
 -- The answers to a start and to a report, one law for each way out.
 use Prim.Native.Nat.{ℕ, _≤_, _<_}
-use native.Mathlib.Omega.{arith}
-use mathlib.Core.Path.{_≡_, refl, sym, ap, subst, _∙_}
+use mathlib.Core.Path.{_≡_, sym, ap, subst, _∙_}
 use mathlib.Core.List.{List}
 use borrow.Author.Tests.{lt-ltb, le-ltb}
 use Rattle.game.specs.Value.{numberOf}
-use Rattle.game.specs.Arena.{Arena, size}
 use Rattle.chart.specs.Meaning.{arenaOf}
 use Rattle.chart.specs.Examined.{examined}
 use Rattle.chart.specs.Accepted.{accepted-size}
@@ -28,7 +26,6 @@ use Rattle.run.specs.Running.{CheckedStart, FormedReport, RowsReport, ad
 use Rattle.run.specs.declared.moves.Kind.{Kind}
 use Rattle.run.specs.declared.Run.{Run}
 use Rattle.run.specs.declared.Advice.{Advice}
-use Rattle.run.specs.declared.Started.{Started}
 use Rattle.run.specs.declared.Started.the-variants.{Refused}
 use Rattle.run.specs.declared.Answer.the-variants.{Refused as Declined, Form as Malformed, Position as Outside}
 use Rattle.run.specs.declared.Reported.{Reported}

@@ -5,7 +5,7 @@ ghost use lib.ListN.{length};
 ghost use Rattle.solver.specs.Solve.{Within};
 ghost use Rattle.plate.specs.Formed.{formOf};
 ghost use Rattle.plate.specs.Read.{entryNumber};
-ghost use Rattle.run.specs.Running.{CheckedStart, FormedReport, RowsReport, adviceAt, moved, reported, runOf, standing, started, startedBy};
+ghost use Rattle.run.specs.Running.{CheckedStart, FormedReport, RowsReport, adviceAt, moved, reported, runOf, standing, started, startedBy, unmoved};
 use crate::moves::Kind;
 use crate::moves::move_kind;
 use audit::Checked;
@@ -95,10 +95,7 @@ impl Run {
             &mut froms,
             &mut tos,
         ) {
-            Examination::Refused(r) => Reported {
-                run: self,
-                answer: Answer::Refused(r),
-            },
+            Examination::Refused(r) => self.unmoved(Answer::Refused(r)),
             Examination::Accepted(chart) => {
                 let n = chart.positions;
                 let m = chart.moves;
@@ -135,6 +132,13 @@ impl Run {
         ensures { λ r. ⌜ r ≡ self .initial ⌝ }
     {
         self.initial
+    }
+
+    // The run as it was, with a refusal.
+    fn unmoved(self, answer: Answer) -> Reported
+        ensures { λ r. ⌜ r ≡ unmoved self answer ⌝ }
+    {
+        Reported { run: self, answer }
     }
 
     // The run at another position, with so many disturbances seen.
@@ -197,10 +201,7 @@ fn report_rows(
     ensures { λ r. ⌜ RowsReport n m (now (owners .entry)) (now (costs .entry)) (now (froms .entry)) (now (tos .entry)) run (now (plate .entry)) to r ⌝ }
 {
     match examine_plate(n, plate) {
-        Form::Bad(line) => Reported {
-            run,
-            answer: Answer::Form(line),
-        },
+        Form::Bad(line) => run.unmoved(Answer::Form(line)),
         Form::Good => report_formed(run, n, m, owners, costs, froms, tos, plate, to),
     }
 }
@@ -222,31 +223,19 @@ fn report_formed(
 {
     let v = run.position;
     if n <= v {
-        return Reported {
-            run,
-            answer: Answer::Position,
-        };
+        return run.unmoved(Answer::Position);
     }
     if n <= to {
-        return Reported {
-            run,
-            answer: Answer::Position,
-        };
+        return run.unmoved(Answer::Position);
     }
     let here = advice_at(n, plate, v);
     let seen = run.seen;
     match move_kind(v, to, here.choice, n, m, owners, costs, froms, tos) {
-        Kind::Neither => Reported {
-            run,
-            answer: Answer::Move,
-        },
+        Kind::Neither => run.unmoved(Answer::Move),
         Kind::Meant => stand(run.moved(to, seen), n, plate),
         Kind::Disturbance => {
             if Run::COUNTED <= seen {
-                return Reported {
-                    run,
-                    answer: Answer::Count,
-                };
+                return run.unmoved(Answer::Count);
             }
             stand(run.moved(to, seen + 1), n, plate)
         }

@@ -1,5 +1,5 @@
 -- `advice_at` meets its contract: the line is within a plate of the form, and its entries fit 16 bits.
-use Prim.Native.Nat.{ℕ, _+_, _-_, _≤_, _<_}
+use Prim.Native.Nat.{_-_}
 use native.Mathlib.Omega.{arith}
 use borrow.Author.Needs.{needs}
 use Rattle.plate.specs.Form.{secondAt, thirdAt}

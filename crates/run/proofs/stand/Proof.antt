@@ -1,6 +1,5 @@
 -- `stand` meets its contract: the advice is that of the run's position.
-use Prim.Native.Nat.{ℕ, _+_, _-_, _≤_, _<_}
-use native.Mathlib.Omega.{arith}
+use Prim.Native.Nat.{_-_}
 use borrow.Author.Needs.{needs}
 use Rattle.run.specs.Running.{standing}
 use Rattle.run.proofs.stand.Statement.{statement}

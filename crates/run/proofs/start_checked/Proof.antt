@@ -1,6 +1,5 @@
 -- `start_checked` meets its contract, by the cases of what Checking answers and the test of the position.
-use Prim.Native.Nat.{ℕ, _+_, _-_, _≤_, _<_}
-use native.Mathlib.Omega.{arith}
+use Prim.Native.Nat.{_-_}
 use borrow.Author.Needs.{needs}
 use Rattle.field.proofs.Cases.{cases}
 use Rattle.run.specs.Running.{adviceAt, runAt, startedBy}

@@ -1,7 +1,5 @@
 -- `Run::moved` meets its contract: the fields are those of the definition.
-use Prim.Native.Nat.{ℕ, _+_, _-_, _≤_, _<_}
-use native.Mathlib.Omega.{arith}
-use borrow.Author.Needs.{needs}
+use Prim.Native.Nat.{_-_}
 use mathlib.Core.Path.{refl}
 use Rattle.run.specs.Running.{moved}
 use Rattle.run.proofs.Run.moved.Statement.{statement}

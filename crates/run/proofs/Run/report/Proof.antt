@@ -3,13 +3,13 @@ use native.Mathlib.Omega.{arith}
 use borrow.Author.Needs.{needs}
 use mathlib.Core.Path.{sym, _∙_}
 use Rattle.value.specs.ValuingLaws.{few-positions, loaded-decoded, loaded-within}
-use Rattle.run.specs.Running.{unmoved}
 use Rattle.run.specs.RunningLaws.{report-refused, report-taken}
 use Rattle.run.proofs.Run.report.Statement.{statement}
 use Rattle.run.proofs.Run.report.Tie as tie
 use Rattle.run.proofs.Run.report.Reads as reads
 use Rattle.run.proofs.Run.report.Lts as lts
 use Rattle.chart.proofs.load.Reads as load-reads
+use Rattle.run.proofs.Run.unmoved.Reads as unmoved-reads
 use Rattle.run.proofs.report_rows.Reads as report-rows-reads
 
 slice-aggregate-load : tie.Need-slice-aggregate-load
@@ -32,6 +32,9 @@ load-requires c κs = search needs
 
 enum-known-r : tie.Need-enum-known-r
 enum-known-r c = search needs
+
+unmoved-requires : tie.Need-unmoved-requires
+unmoved-requires c κs = search needs
 
 enum-known-chart : tie.Need-enum-known-chart
 enum-known-chart c = search needs
@@ -61,8 +64,7 @@ report-rows-requires c κs =
     )
 
 returns : tie.Need-returns
-unfolding unmoved
-returns c = report-refused _ _ _ _ _ (sym (c .before .before .before .before .before .before .before .before .load .ensures .answer) ∙ c .before .r .given .1)
+returns c = c .unmoved .ensures ∙ report-refused _ _ _ _ _ (sym (c .before .before .before .before .before .before .before .before .before .load .ensures .answer) ∙ c .before .before .r .given .1)
 
 returns-2 : tie.Need-returns-2
 returns-2 c =
@@ -83,6 +85,7 @@ report-spec =
     slice-aggregate-load-5
     load-requires
     enum-known-r
+    unmoved-requires
     enum-known-chart
     slice-aggregate-report-rows
     slice-aggregate-report-rows-2

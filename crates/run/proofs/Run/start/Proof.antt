@@ -1,6 +1,5 @@
 -- `Run::start` meets its contract: the chart's refusal is handed on, and an accepted chart's start goes by what Checking answers.
-use Prim.Native.Nat.{ℕ, _+_, _-_, _≤_, _<_}
-use native.Mathlib.Omega.{arith}
+use Prim.Native.Nat.{_-_}
 use borrow.Author.Needs.{needs}
 use mathlib.Core.Path.{sym, _∙_}
 use Rattle.run.specs.RunningLaws.{checked-start, start-checked, start-refused}

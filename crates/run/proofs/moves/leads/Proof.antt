@@ -1,5 +1,5 @@
 -- `leads` meets its contract: each answer by the tests that led to it.
-use Prim.Native.Nat.{ℕ, _+_, _-_, _≤_, _<_}
+use Prim.Native.Nat.{_-_}
 use native.Mathlib.Omega.{arith}
 use borrow.Author.Needs.{needs}
 use Rattle.field.proofs.Cases.{cases}

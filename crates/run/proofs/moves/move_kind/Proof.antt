@@ -1,5 +1,4 @@
 -- `move_kind` meets its contract: each answer by the tests that led to it, which are those of the definition.
-use native.Mathlib.Omega.{arith}
 use borrow.Author.Needs.{needs}
 use borrow.Author.Tests.{eq-eqb, ne-eqb}
 use Rattle.run.specs.MoveLaws.{kind-is}
