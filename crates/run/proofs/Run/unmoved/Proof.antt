@@ -1,0 +1,14 @@
+-- `Run::unmoved` meets its contract: the fields are those of the definition.
+use mathlib.Core.Path.{refl}
+use Rattle.run.specs.Running.{unmoved}
+use Rattle.run.proofs.Run.unmoved.Statement.{statement}
+use Rattle.run.proofs.Run.unmoved.Tie as tie
+use Rattle.run.proofs.Run.unmoved.Reads as reads
+use Rattle.run.proofs.Run.unmoved.Lts as lts
+
+returns : tie.Need-returns
+unfolding unmoved
+returns c = refl
+
+pub unmoved-spec : {M : Type 1} → statement M
+unmoved-spec = tie.close (tie.spec returns)

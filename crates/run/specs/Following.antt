@@ -1,0 +1,53 @@
+-- A run and its reports (document 01, "The run"): the run after a row of reports with the same two texts, the play that the
+-- accepted ones are, and what holds of both.
+use Prim.Native.Nat.{ℕ}
+use mathlib.Core.Path.{_≡_}
+use mathlib.Core.List.{List, [], _∷_}
+use Rattle.game.specs.Value.{fin, valueOf, _≼_, _≺_, _⊕_}
+use Rattle.game.specs.Play.{Trail, meant, disturbed, last, cost, Play, Unsafe, Legal, positional}
+use Rattle.chart.specs.Meaning.{arenaOf}
+use Rattle.plate.specs.Read.{valueIn, choiceIn}
+use Rattle.run.specs.Moves.{moveKind}
+use Rattle.run.specs.Running.{reported}
+use Rattle.run.specs.declared.moves.Kind.{Kind}
+use Rattle.run.specs.declared.moves.Kind.the-variants.{Meant, Disturbance, Neither}
+use Rattle.run.specs.declared.Run.{Run}
+use Rattle.run.specs.declared.Answer.{Answer}
+use Rattle.run.specs.declared.Answer.the-variants.{Taken, Refused, Form, Position, Move, Count}
+
+-- an accepted report adds its move to the trail, as what it is; a refused one adds nothing
+unfoldable pub grown : Answer → Kind → ℕ → Trail → Trail
+grown (Taken advice) Meant to t = meant t to
+grown (Taken advice) Disturbance to t = disturbed t to
+grown (Taken advice) Neither to t = t
+grown (Refused r) k to t = t
+grown (Form line) k to t = t
+grown Position k to t = t
+grown Move k to t = t
+grown Count k to t = t
+
+module _ (text plate : List ℕ) where
+  unfoldable pub trailWith : Run → ℕ → Trail → Trail
+  trailWith run to t = grown (reported run text plate to .answer) (moveKind (arenaOf text) (choiceIn plate (run .position)) (run .position) to) to t
+
+  -- the run after reports, the oldest first, and the trail of those that were accepted
+  unfoldable pub runAfter : Run → List ℕ → Run
+  runAfter run [] = run
+  runAfter run (to ∷ tos) = runAfter (reported run text plate to .run) tos
+
+  unfoldable pub trailAfter : Run → Trail → List ℕ → Trail
+  trailAfter run t [] = t
+  trailAfter run t (to ∷ tos) = trailAfter (reported run text plate to .run) (trailWith run to t) tos
+
+  -- a run that began at `position` and the trail of its accepted reports
+  pub record Follows (legal : Legal (arenaOf text) (choiceIn plate)) (position : ℕ) (run : Run) (t : Trail) : Type 0 where
+    -- they are a play of the plate's controller, which stands where the run does and costs what was seen
+    pub play : Play (arenaOf text) (positional (arenaOf text) (choiceIn plate) legal) position t
+    pub stands : run .position ≡ last position t
+    pub counts : run .seen ≡ cost (arenaOf text) position t
+    -- the run keeps the value at its start
+    pub began : valueOf (run .initial) ≡ valueIn plate position
+    -- "present value plus disturbances seen is at least the starting value"
+    pub holds : valueOf (run .initial) ≼ valueIn plate (run .position) ⊕ run .seen
+    -- and while less was seen than that, every position so far was safe
+    pub safe : fin (run .seen) ≺ valueOf (run .initial) → Unsafe (arenaOf text) position t → ⊥

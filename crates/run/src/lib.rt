@@ -1,0 +1,279 @@
+// The run (document 01, "The jobs"): it begins by the start job, which wants an accepted plate, and each report moves it on.
+ghost use mathlib.Core.Path.{_≡_};
+ghost use Prim.Native.Nat.{_≤_, _<_};
+ghost use lib.ListN.{length};
+ghost use Rattle.solver.specs.Solve.{Within};
+ghost use Rattle.plate.specs.Formed.{formOf};
+ghost use Rattle.plate.specs.Read.{entryNumber};
+ghost use Rattle.run.specs.Running.{CheckedStart, FormedReport, RowsReport, adviceAt, moved, reported, runOf, standing, started, startedBy, unmoved};
+use crate::moves::Kind;
+use crate::moves::move_kind;
+use audit::Checked;
+use audit::check;
+use chart::Examination;
+use chart::Refusal;
+use chart::examine;
+use chart::load;
+use plate::Entry;
+use plate::Form;
+use plate::LINE;
+use plate::examine_plate;
+use plate::read_entry;
+use solver::solve::NONE;
+
+pub mod moves;
+
+// The position that the machine stands at, the disturbances seen, and the value at the start, 65,535 for "ever".
+pub struct Run {
+    position: usize,
+    seen: u32,
+    initial: u16,
+}
+
+// The plate's choice and value at the position now held, as numbers in rows.
+pub struct Advice {
+    pub choice: u16,
+    pub value: u16,
+}
+
+// What a start answers: the run with its advice, the chart's refusal, 11 with the plate's line, 13, or 14 with position and
+// condition.
+pub enum Started {
+    Begun(Run, Advice),
+    Refused(Refusal),
+    Form(usize),
+    Position,
+    Fault(usize, u8),
+}
+
+// What a report answers beside the run: advice, the chart's refusal, 11 with the plate's line, 13, 15 or 16.
+pub enum Answer {
+    Taken(Advice),
+    Refused(Refusal),
+    Form(usize),
+    Position,
+    Move,
+    Count,
+}
+
+pub struct Reported {
+    pub run: Run,
+    pub answer: Answer,
+}
+
+impl Run {
+    // The most disturbances that are counted.
+    pub const COUNTED: u32 = 99999;
+
+    // A run at a position, on an accepted plate.
+    pub fn start(text: &[u8], plate: &[u8], position: usize) -> Started
+        ensures { λ r. ⌜ r ≡ started (now (text .entry)) (now (plate .entry)) position ⌝ }
+    {
+        match examine(text) {
+            Examination::Refused(r) => Started::Refused(r),
+            Examination::Accepted(chart) => {
+                let n = chart.positions;
+                start_checked(n, check(text, plate), plate, position)
+            }
+        }
+    }
+
+    // The run after the machine went to a position, or the refusal with the run as it was.
+    pub fn report(self, text: &[u8], plate: &[u8], to: usize) -> Reported
+        ensures { λ r. ⌜ r ≡ reported self (now (text .entry)) (now (plate .entry)) to ⌝ }
+    {
+        let mut owners = [0u8; 512];
+        let mut marks = [0u8; 512];
+        let mut costs = [0u8; 4096];
+        let mut froms = [0u16; 4096];
+        let mut tos = [0u16; 4096];
+        match load(
+            text,
+            &mut owners,
+            &mut marks,
+            &mut costs,
+            &mut froms,
+            &mut tos,
+        ) {
+            Examination::Refused(r) => self.unmoved(Answer::Refused(r)),
+            Examination::Accepted(chart) => {
+                let n = chart.positions;
+                let m = chart.moves;
+                report_rows(self, n, m, &owners, &costs, &froms, &tos, plate, to)
+            }
+        }
+    }
+
+    // A run that was stored, from its three numbers. Nothing is tested: a report is defined for every run.
+    pub fn restored(position: usize, seen: u32, initial: u16) -> Self
+        ensures { λ r. ⌜ r ≡ runOf position seen initial ⌝ }
+    {
+        Run {
+            position,
+            seen,
+            initial,
+        }
+    }
+
+    // Its three numbers.
+    pub fn position(self) -> usize
+        ensures { λ r. ⌜ r ≡ self .position ⌝ }
+    {
+        self.position
+    }
+
+    pub fn seen(self) -> u32
+        ensures { λ r. ⌜ r ≡ self .seen ⌝ }
+    {
+        self.seen
+    }
+
+    pub fn initial(self) -> u16
+        ensures { λ r. ⌜ r ≡ self .initial ⌝ }
+    {
+        self.initial
+    }
+
+    // The run as it was, with a refusal.
+    fn unmoved(self, answer: Answer) -> Reported
+        ensures { λ r. ⌜ r ≡ unmoved self answer ⌝ }
+    {
+        Reported { run: self, answer }
+    }
+
+    // The run at another position, with so many disturbances seen.
+    fn moved(self, to: usize, seen: u32) -> Self
+        ensures { λ r. ⌜ r ≡ moved self to seen ⌝ }
+    {
+        Run {
+            position: to,
+            seen,
+            initial: self.initial,
+        }
+    }
+}
+
+// The answer to a start, from what Checking answers: 13 before 14.
+fn start_checked(n: usize, checked: Checked, plate: &[u8], position: usize) -> Started
+    requires { ⌜ CheckedStart n (now plate) checked ⌝ }
+    ensures { λ r. ⌜ r ≡ startedBy (now (plate .entry)) position n checked ⌝ }
+{
+    match checked {
+        Checked::Refused(r) => Started::Refused(r),
+        Checked::Form(line) => Started::Form(line),
+        Checked::Fault(v, condition) => {
+            if n <= position {
+                return Started::Position;
+            }
+            Started::Fault(v, condition)
+        }
+        Checked::Accepted => {
+            if n <= position {
+                return Started::Position;
+            }
+            let advice = advice_at(n, plate, position);
+            let initial = advice.value;
+            Started::Begun(
+                Run {
+                    position,
+                    seen: 0,
+                    initial,
+                },
+                advice,
+            )
+        }
+    }
+}
+
+// The answer to a report, from a chart's rows: the plate's form first.
+fn report_rows(
+    run: Run,
+    n: usize,
+    m: usize,
+    owners: &[u8],
+    costs: &[u8],
+    froms: &[u16],
+    tos: &[u16],
+    plate: &[u8],
+    to: usize,
+) -> Reported
+    requires { ⌜ Within n m (now costs) (now froms) (now tos) × (n ≤ 512) × (n ≤ length (now owners)) ⌝ }
+    ensures { λ r. ⌜ RowsReport n m (now (owners .entry)) (now (costs .entry)) (now (froms .entry)) (now (tos .entry)) run (now (plate .entry)) to r ⌝ }
+{
+    match examine_plate(n, plate) {
+        Form::Bad(line) => run.unmoved(Answer::Form(line)),
+        Form::Good => report_formed(run, n, m, owners, costs, froms, tos, plate, to),
+    }
+}
+
+// From a plate of the form: both positions, then what the move is.
+fn report_formed(
+    run: Run,
+    n: usize,
+    m: usize,
+    owners: &[u8],
+    costs: &[u8],
+    froms: &[u16],
+    tos: &[u16],
+    plate: &[u8],
+    to: usize,
+) -> Reported
+    requires { ⌜ Within n m (now costs) (now froms) (now tos) × (n ≤ 512) × (n ≤ length (now owners)) × (formOf n (now plate) ≡ Form.Good) ⌝ }
+    ensures { λ r. ⌜ FormedReport n m (now (owners .entry)) (now (costs .entry)) (now (froms .entry)) (now (tos .entry)) run (now (plate .entry)) to r ⌝ }
+{
+    let v = run.position;
+    if n <= v {
+        return run.unmoved(Answer::Position);
+    }
+    if n <= to {
+        return run.unmoved(Answer::Position);
+    }
+    let here = advice_at(n, plate, v);
+    let seen = run.seen;
+    match move_kind(v, to, here.choice, n, m, owners, costs, froms, tos) {
+        Kind::Neither => run.unmoved(Answer::Move),
+        Kind::Meant => stand(run.moved(to, seen), n, plate),
+        Kind::Disturbance => {
+            if Run::COUNTED <= seen {
+                return run.unmoved(Answer::Count);
+            }
+            stand(run.moved(to, seen + 1), n, plate)
+        }
+    }
+}
+
+// A run with the advice where it stands. The bounds are those of a plate of the form.
+fn stand(run: Run, n: usize, plate: &[u8]) -> Reported
+    requires { ⌜ (n ≤ 512) × (formOf n (now plate) ≡ Form.Good) × (run .position < n) ⌝ }
+    ensures { λ r. ⌜ r ≡ standing (now (plate .entry)) run ⌝ }
+{
+    let v = run.position;
+    Reported {
+        run,
+        answer: Answer::Taken(advice_at(n, plate, v)),
+    }
+}
+
+// Choice and value of a position, on its line of a plate of the form.
+fn advice_at(n: usize, plate: &[u8], v: usize) -> Advice
+    requires { ⌜ (n ≤ 512) × (formOf n (now plate) ≡ Form.Good) × (v < n) ⌝ }
+    ensures { λ r. ⌜ r ≡ adviceAt (now (plate .entry)) v ⌝ }
+{
+    let at = (v + 1) * LINE;
+    let choice = number(read_entry(plate, at + 11));
+    let value = number(read_entry(plate, at + 6));
+    Advice { choice, value }
+}
+
+// An entry as a number in a row. The bound keeps it within 16 bits.
+fn number(entry: Entry) -> u16
+    requires { ⌜ entryNumber entry ≤ 65535 ⌝ }
+    ensures { λ r. ⌜ r ≡ entryNumber entry ⌝ }
+{
+    match entry {
+        Entry::Number(x) => x as u16,
+        Entry::Dash => NONE,
+        Entry::Ever => NONE,
+        Entry::Bad => NONE,
+    }
+}
