@@ -1,8 +1,8 @@
 -- Each answer is given exactly when its condition holds. Forward, by cases on the chart's examination, the plate's form, the two
 -- tests of positions and the kind; backward, the condition settles each of these in turn.
 use Prim.Native.Nat.{ℕ, _+_, _≤_, _<_}
-use mathlib.Core.Path.{_≡_, refl, sym, ap, subst, _∙_}
-use mathlib.Core.Logic.{_↔_, _⊎_, inl, inr}
+use mathlib.Core.Path.{_≡_, refl, ap, subst, _∙_}
+use mathlib.Core.Logic.{_↔_, inl, inr}
 use mathlib.Core.Bool.{Bool, true, false, cond}
 use mathlib.Core.List.{List}
 use lib.Dec.{ltb}
@@ -15,16 +15,25 @@ use Rattle.chart.specs.declared.Examination.{Examination}
 use Rattle.chart.specs.declared.Examination.the-variants.{Accepted as Taken, Refused as Turned}
 use Rattle.plate.specs.Exact.{bad-line-exact, form-exact}
 use Rattle.plate.specs.Formed.{formOf}
-use Rattle.plate.specs.Read.{choiceIn}
+use Rattle.plate.specs.Read.{headerIn, valueIn, choiceIn, stepIn}
 use Rattle.plate.specs.declared.Form.{Form as PlateForm}
 use Rattle.plate.specs.declared.Form.the-variants.{Good, Bad}
-use Rattle.audit.specs.Answers.{FormIs}
+use Rattle.audit.specs.Verdict.{verdictOf}
+use Rattle.audit.specs.Checking.{answerOf, checked}
+use Rattle.audit.specs.Answers.{AnswerIs as AuditIs}
+use Rattle.audit.specs.AnswersExact.{accepted-of, answer-exactly}
+use Rattle.audit.specs.declared.rows.Verdict.{Verdict}
+use Rattle.audit.specs.declared.rows.Verdict.the-variants.{Sound, Fault as RowFault}
+use Rattle.audit.specs.declared.Checked.{Checked}
+use Rattle.audit.specs.declared.Checked.the-variants.{Accepted, Refused as Rejected, Form as BadForm, Fault as Faulty}
 use Rattle.run.specs.Moves.{moveKind}
-use Rattle.run.specs.Running.{adviceAt, moved, reported, reportedBy, reportedForm, reportedInside, reportedMove, standing, unmoved}
-use Rattle.run.specs.Answers.{Moves, Readable, ReportIs}
+use Rattle.run.specs.Running.{adviceAt, moved, reported, reportedBy, reportedForm, reportedInside, reportedMove, runAt, standing, started, startedBy, unmoved}
+use Rattle.run.specs.Answers.{Moves, Readable, ReportIs, StartIs}
 use Rattle.run.specs.declared.moves.Kind.{Kind}
 use Rattle.run.specs.declared.moves.Kind.the-variants.{Meant, Disturbance, Neither}
 use Rattle.run.specs.declared.Run.{Run}
+use Rattle.run.specs.declared.Started.{Started}
+use Rattle.run.specs.declared.Started.the-variants.{Begun, Refused, Form, Position, Fault}
 use Rattle.run.specs.declared.Answer.{Answer}
 use Rattle.run.specs.declared.Answer.the-variants.{Taken as Went, Refused as Declined, Form as Malformed, Position as Outside, Move, Count}
 use Rattle.run.specs.declared.Reported.{Reported}
@@ -106,4 +115,47 @@ module _ (run : Run) (text plate : List ℕ) (to : ℕ) where
   report-exactly after r = (
     λ e. subst Is e answered,
     from after r,
+  )
+
+-- A start, by the exact answers of Checking
+module _ (text plate : List ℕ) (position : ℕ) where
+  abbrev n : ℕ
+  n = size (arenaOf text)
+
+  start-of : (x : Checked) → AuditIs text plate x → StartIs text plate position (startedBy plate position n x)
+  unfolding startedBy
+  start-of (Rejected r) is = is
+  start-of (BadForm line) is = is
+  start-of (Faulty v c) is = go (ltb position n) refl
+    where
+      go : (b : Bool) → ltb position n ≡ b → StartIs text plate position (cond b (Fault v c) Position)
+      go true h = (is, ltb-true position n h)
+      go false h = (record { chart = is .chart; taken = is .taken; form = is .form }, ltb-false position n h)
+  start-of Accepted is = go (ltb position n) refl
+    where
+      go : (b : Bool) → ltb position n ≡ b → StartIs text plate position (cond b (Begun (runAt plate position) (adviceAt plate position)) Position)
+      go true h = (is, ltb-true position n h, refl, refl)
+      go false h = (record { chart = is .chart; taken = is .taken; form = is .form }, ltb-false position n h)
+
+  -- what Checking answers to a readable plate is no refusal up to 11
+  outside : n ≤ position → (r : Verdict) → startedBy plate position n (answerOf r) ≡ Position
+  unfolding startedBy
+  outside l Sound = rw (le-ltb position n l)
+  outside l (RowFault v c) = rw (le-ltb position n l)
+
+  start-from : (r : Started) → StartIs text plate position r → started text plate position ≡ r
+  unfolding started startedBy
+  start-from (Begun run advice) (is, l, e, z) = rw (answer-exactly text plate Accepted .1 is, lt-ltb position n l, e, z)
+  start-from (Refused r) is = rw (answer-exactly text plate (Rejected r) .1 is)
+  start-from (Form line) is = rw (answer-exactly text plate (BadForm line) .1 is)
+  start-from (Fault v c) (is, l) = rw (answer-exactly text plate (Faulty v c) .1 is, lt-ltb position n l)
+  start-from Position (w, l) =
+      let r = verdictOf (arenaOf text) (valueIn plate) (choiceIn plate) (stepIn plate) (headerIn plate) in
+      rw (accepted-of text plate (w .chart) (w .taken) (w .form) r refl) (outside l r)
+
+  pub start-exactly : (r : Started) → (started text plate position ≡ r) ↔ StartIs text plate position r
+  unfolding started
+  start-exactly r = (
+    λ e. subst (StartIs text plate position) e (start-of (checked text plate) (answer-exactly text plate (checked text plate) .0 refl)),
+    start-from r,
   )

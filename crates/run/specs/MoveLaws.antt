@@ -18,7 +18,7 @@ use Rattle.chart.specs.Rows.{ownerNumber}
 use Rattle.solver.specs.RowLaws.{found, numberAt}
 use Rattle.solver.specs.Held.{Decoded}
 use Rattle.solver.specs.HeldLaws.{lines-of}
-use Rattle.run.specs.Moves.{isMeant, isDisturbance, kindAs, moveKind, leadsTo, KindIs}
+use Rattle.run.specs.Moves.{isMeant, isDisturbance, kindAs, moveKind, KindSays, leadsTo, KindIs}
 use Rattle.run.specs.declared.moves.Kind.{Kind}
 use Rattle.run.specs.declared.moves.Kind.the-variants.{Meant as Chosen, Disturbance as Disturbed, Neither}
 
@@ -80,15 +80,6 @@ disturbance-exactly a v w = (
   λ h. let r = some-disturbance a v (λ x. eqb x w) .0 h in subst (Disturbance a v) (eqb→eq (r .0) w (r .2)) (r .1),
   λ m. some-disturbance a v (λ x. eqb x w) .1 (w, m, eqb-refl w),
 )
-
--- the sentence: what each kind says at O and at L
-abbrev pub KindSays : Owner → Arena → Value → ℕ → ℕ → Kind → Type 0
-KindSays controller a choice v w Chosen = (choice ≡ fin w) × Meant a v w
-KindSays controller a choice v w Disturbed = ((choice ≡ fin w) × Meant a v w → ⊥) × Disturbance a v w
-KindSays controller a choice v w Neither = ((choice ≡ fin w) × Meant a v w → ⊥) × (Disturbance a v w → ⊥)
-KindSays environment a choice v w Chosen = Meant a v w
-KindSays environment a choice v w Disturbed = ⊥
-KindSays environment a choice v w Neither = Meant a v w → ⊥
 
 module _ (a : Arena) (choice : Value) (v w : ℕ) where
   chosen-exactly : T (eqV choice (fin w) && isMeant a v w) ↔ ((choice ≡ fin w) × Meant a v w)

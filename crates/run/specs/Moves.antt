@@ -6,7 +6,7 @@ use mathlib.Core.List.{List}
 use lib.ListN.{getD}
 use lib.Dec.{eqb}
 use Rattle.game.specs.Value.{Value, fin, eqV, numberOf}
-use Rattle.game.specs.Arena.{Arena, Owner, controller, environment, ownerAt}
+use Rattle.game.specs.Arena.{Arena, Owner, controller, environment, ownerAt, Meant as MeantTarget, Disturbance as DisturbedTo}
 use Rattle.game.specs.Table.{someMove, meantFrom, disturbanceFrom}
 use Rattle.solver.specs.Held.{Decoded}
 use Rattle.run.specs.declared.moves.Kind.{Kind}
@@ -28,6 +28,15 @@ kindAs environment a choice v w = cond (isMeant a v w) Meant Neither
 -- what a move from v to w is, with this choice at v
 unfoldable pub moveKind : Arena → Value → ℕ → ℕ → Kind
 moveKind a choice v w = kindAs (ownerAt a v) a choice v w
+
+-- the same as a statement: what each kind says at O and at L
+abbrev pub KindSays : Owner → Arena → Value → ℕ → ℕ → Kind → Type 0
+KindSays controller a choice v w Meant = (choice ≡ fin w) × MeantTarget a v w
+KindSays controller a choice v w Disturbance = ((choice ≡ fin w) × MeantTarget a v w → ⊥) × DisturbedTo a v w
+KindSays controller a choice v w Neither = ((choice ≡ fin w) × MeantTarget a v w → ⊥) × (DisturbedTo a v w → ⊥)
+KindSays environment a choice v w Meant = MeantTarget a v w
+KindSays environment a choice v w Disturbance = ⊥
+KindSays environment a choice v w Neither = MeantTarget a v w → ⊥
 
 -- In rows: the i-th move has this cost and leads to w, and it leaves v
 unfoldable pub leadsTo : (cost w : ℕ) (costs tos : List ℕ) → ℕ → Bool
