@@ -1,4 +1,4 @@
--- T16: a run begun by a start, and any row of reports with the same two texts. One report at a time: it is refused and nothing
+-- A run begun by a start, and any row of reports with the same two texts. One report at a time: it is refused and nothing
 -- changes, or it is a move of the plate's controller or a disturbance, and the certificate at the position that it leaves
 -- carries the bound over.
 use Prim.Native.Nat.{ℕ, _+_, _<_}
@@ -202,7 +202,7 @@ module _ (text plate : List ℕ) (position : ℕ) (run : Run) (advice : Advice) 
     pub begun-is-legal : Legal (arenaOf text) (choiceIn plate)
     begun-is-legal = certificate-is-legal (arenaOf text) (valueIn plate) (choiceIn plate) (stepIn plate) (accepted .certificate)
 
-    -- T16
+    -- any row of reports is a play of the plate's controller, in step with the run
     pub run-follows-its-controller : (legal : Legal (arenaOf text) (choiceIn plate)) (tos : List ℕ)
         → Follows text plate legal position (runAfter text plate run tos) (trailAfter text plate run still tos)
     run-follows-its-controller legal tos =
