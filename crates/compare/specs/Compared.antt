@@ -2,7 +2,7 @@
 use Prim.Native.Nat.{ℕ, _<_}
 use mathlib.Core.Path.{_≡_}
 use mathlib.Core.List.{List}
-use Rattle.game.specs.Value.{Value, valueOf, _≺_}
+use Rattle.game.specs.Value.{valueOf, _≺_}
 use Rattle.game.specs.Arena.{size}
 use Rattle.game.specs.Play.{Controller, Legal, positional}
 use Rattle.game.specs.Worth.{WorthIs, AtMost, IsValue}

@@ -9,7 +9,6 @@ use mathlib.Core.Logic.{⊎-elim}
 use lib.Dec.{eqb}
 use borrow.Author.Tests.{eq-eqb, ne-eqb, eqb-true, eqb-false}
 use Rattle.compare.specs.Comparing.{firstDifference}
-use Rattle.compare.specs.declared.Compared.{Compared}
 use Rattle.compare.specs.declared.Compared.the-variants.{Agree, Differ}
 
 module _ (f g : ℕ → ℕ) where

@@ -1,5 +1,4 @@
 -- `compare` meets its contract: the chart's refusal is handed on, a short row of choices is 10, and else the plate is compared.
-use native.Mathlib.Omega.{arith}
 use borrow.Author.Needs.{needs}
 use mathlib.Core.Path.{sym, ap, _∙_}
 use Rattle.compare.specs.Comparing.{afterExamining, compared}

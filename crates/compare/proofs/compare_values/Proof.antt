@@ -1,6 +1,5 @@
 -- `compare_values` meets its contract: a refusal of Weighing is handed on, then one of Checking, and what is left is the first
 -- difference of the two rows.
-use native.Mathlib.Omega.{arith}
 use borrow.Author.Needs.{needs}
 use mathlib.Core.Path.{sym, ap, _∙_}
 use Rattle.compare.specs.Comparing.{afterChecking, afterWeighing}

@@ -1,6 +1,6 @@
 -- `first_difference` meets its contract. The invariant: the first difference of what is left is that of all. Equal numbers leave that
 -- as it is, others end it, and with nothing left there is none: the laws of `firstDifference`.
-use Prim.Native.Nat.{ℕ, _+_, _-_, _≤_, _<_}
+use Prim.Native.Nat.{ℕ, _-_, _≤_}
 use native.Mathlib.Omega.{arith}
 use mathlib.Core.Path.{_≡_, sym, ap, _∙_}
 use denote.Ref.{now}
