@@ -202,12 +202,18 @@ fn chosen_and_disturbed() {
     report(b"disturbed", stays, e, one, 1);
 }
 
-// The refusals of a start, and their order.
+// The refusals of a start and of a report, and their order.
 fn starts() {
     let chart = b"H    1    2\nO    0    0\nM    0    0\nD    0    0\n";
     let plate = b"P    1    0    -    1\nV    0 ever    0    -\n";
     let at0 = start(b"one position, M and D to itself", chart, plate, 0);
     report(b"meant", at0, chart, plate, 0);
+    refused_charts(plate);
+    refused_plates(chart, plate);
+    refused_reports(at0, chart, plate);
+}
+
+fn refused_charts(plate: &[u8]) {
     start(b"1: no chart", b"", plate, 0);
     start(b"1 before 11 and 13", b"", b"", 9);
     start(b"4: only a header", b"H    1    1\n", plate, 0);
@@ -217,6 +223,9 @@ fn starts() {
         plate,
         0,
     );
+}
+
+fn refused_plates(chart: &[u8], plate: &[u8]) {
     start(b"11: no plate", chart, b"", 0);
     start(b"11 before 13", chart, b"", 1);
     start(
@@ -250,6 +259,9 @@ fn starts() {
         b"P    1    1    -    1\nV    0 ever    0    -\n",
         0,
     );
+}
+
+fn refused_reports(at0: Run, chart: &[u8], plate: &[u8]) {
     report(b"1: no chart", at0, b"", plate, 0);
     report(
         b"9: no meant move",
