@@ -56,6 +56,7 @@ pub enum Answer {
     Count,
 }
 
+// The run that a report hands back, and its answer.
 pub struct Reported {
     pub run: Run,
     pub answer: Answer,
