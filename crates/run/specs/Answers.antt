@@ -47,7 +47,8 @@ pub record Moves (run : Run) (text plate : List ℕ) (to : ℕ) (k : Kind) : Typ
 -- a report, beside the run that it hands back
 abbrev pub ReportIs : Run → List ℕ → List ℕ → ℕ → Run → Answer → Type 0
 ReportIs run text plate to after (Went advice) =
-    ((Moves run text plate to Meant × (after ≡ moved run to (run .seen))) ⊎ (Moves run text plate to Disturbance × (run .seen < 99999) × (after ≡ moved run to (run .seen + 1))))
+    ((Moves run text plate to Meant × (after ≡ moved run to (run .seen)))
+    ⊎ (Moves run text plate to Disturbance × (run .seen < 99999) × (after ≡ moved run to (run .seen + 1))))
     × (advice ≡ adviceAt plate to)
 ReportIs run text plate to after (Declined r) = (examined text ≡ Turned r) × (after ≡ run)
 ReportIs run text plate to after (Malformed line) = FormIs text plate line × (after ≡ run)

@@ -140,14 +140,17 @@ module _ (text plate : List ℕ) (is : AcceptedIs text plate) (legal : Legal (ar
       is .certificate (run .position) (subst (λ (v : ℕ). v < size a) (sym (f .stands)) inside)
 
   -- one report
-  followed : (run : Run) (to : ℕ) (t : Trail) → Follows text plate legal position run t → {r : Run} {u : Trail} → Step text plate run to t r u → Follows text plate legal position r u
+  followed : (run : Run) (to : ℕ) (t : Trail) → Follows text plate legal position run t
+      → {r : Run} {u : Trail} → Step text plate run to t r u → Follows text plate legal position r u
   unfolding moved last cost Play
   followed run to t f refused = f
   followed run to t f (went e) =
       let m = meant-follows a (choiceIn plate (run .position)) (run .position) to e in
       let allowed = subst (λ (v : ℕ). Allows (ownerAt a v) (targetOf (choiceIn plate v)) to) (f .stands) (m .1) in
+      let pick = sym (positional-pick a (choiceIn plate) legal position t) in
+      let picked = subst (λ (p : ℕ). Allows (ownerAt a (last position t)) p to) pick allowed in
       follows (moved run to (run .seen)) (meant t to)
-      (f .play, subst (λ (v : ℕ). Meant′ a v to) (f .stands) (m .0), subst (λ (p : ℕ). Allows (ownerAt a (last position t)) p to) (sym (positional-pick a (choiceIn plate) legal position t)) allowed)
+      (f .play, subst (λ (v : ℕ). Meant′ a v to) (f .stands) (m .0), picked)
       refl (f .counts) (f .began) (step-holds text plate run to (valueOf (run .initial)) (here run t f) (f .holds) {t = t} (went e))
   followed run to t f (pushed e) =
       let d = disturbance-follows a (choiceIn plate (run .position)) (run .position) to e in
@@ -156,7 +159,8 @@ module _ (text plate : List ℕ) (is : AcceptedIs text plate) (legal : Legal (ar
       (step-holds text plate run to (valueOf (run .initial)) (here run t f) (f .holds) {t = t} (pushed e))
 
   -- and a row of them
-  all-followed : (tos : List ℕ) (run : Run) (t : Trail) → Follows text plate legal position run t → Follows text plate legal position (runAfter text plate run tos) (trailAfter text plate run t tos)
+  all-followed : (tos : List ℕ) (run : Run) (t : Trail) → Follows text plate legal position run t
+      → Follows text plate legal position (runAfter text plate run tos) (trailAfter text plate run t tos)
   unfolding runAfter trailAfter
   all-followed [] run t f = f
   all-followed (to ∷ tos) run t f =

@@ -54,7 +54,12 @@ module _ {n m : ℕ} {owners costs froms tos : List ℕ} where
       → r ≡ rowKind (eqb (getD owners v 0) 0) (eqb number w) (found (numberAt froms) (leadsTo 0 w costs tos) m v) (found (numberAt froms) (leadsTo 1 w costs tos) m v)
       → KindIs n m owners costs froms tos number v w r
   unfolding moveKind kindAs
-  kind-is number v w {r} inside small e = record { answer = λ a d choice z. e ∙ rw (z, choice-number choice w small, meant-found a d v w, disturbance-found a d v w, d .owner v inside) (go a choice (ownerAt a v)) }
+  kind-is number v w {r} inside small e =
+      record {
+        answer = λ a d choice z.
+            e ∙ rw (z, choice-number choice w small, meant-found a d v w, disturbance-found a d v w, d .owner v inside)
+            (go a choice (ownerAt a v));
+      }
     where
       go : (a : Arena) (choice : Value) (o : Owner) → rowKind (eqb (ownerNumber o) 0) (eqV choice (fin w)) (isMeant a v w) (isDisturbance a v w) ≡ kindAs o a choice v w
       go a choice controller = refl
