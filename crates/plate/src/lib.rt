@@ -286,6 +286,7 @@ fn ever_or_below(plate: &[u8], at: usize, bound: usize) -> bool
 }
 
 // A plate of the form into the first line's numbers and three rows; what lies past the last position's number stays.
+// The bounds are what Reading and Checking have by then: a plate that was found of the form, and rows with room for n numbers.
 pub fn read_rows(
     n: usize,
     plate: &[u8],
