@@ -28,6 +28,7 @@ pub enum Checked {
 }
 
 // An answer in the refusal table's numbers, 0 where it has none.
+#[repr(C)]
 pub struct Numbers {
     pub number: u32,
     pub line: usize,
@@ -48,7 +49,7 @@ impl Checked {
     }
 }
 
-fn numbers_of(number: u32, line: usize, position: usize, condition: u8) -> Numbers
+pub fn numbers_of(number: u32, line: usize, position: usize, condition: u8) -> Numbers
     ensures { λ r. ⌜ r ≡ numbersFrom number line position condition ⌝ }
 {
     Numbers {

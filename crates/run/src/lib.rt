@@ -24,6 +24,7 @@ use solver::solve::NONE;
 pub mod moves;
 
 // The position that the machine stands at, the disturbances seen, and the value at the start, 65,535 for "ever".
+#[repr(C)]
 pub struct Run {
     position: usize,
     seen: u32,
@@ -31,6 +32,7 @@ pub struct Run {
 }
 
 // The plate's choice and value at the position now held, as numbers in rows.
+#[repr(C)]
 pub struct Advice {
     pub choice: u16,
     pub value: u16,

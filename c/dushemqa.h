@@ -1,0 +1,210 @@
+/* Dushemqa: lane charts and their plates, from C.
+ *
+ * Every function is proved, for all bytes and numbers that may be lent to it, to answer what the library's job of that name
+ * answers, to end, and to touch nothing but what is lent. What a caller owes:
+ *   - a pointer that is not null and points to as many readable elements as its length says, also where that is 0 (any valid
+ *     address serves then); a pointer without `const` points to elements that may be written;
+ *   - memory that is lent for writing overlaps nothing else that is lent to the same call;
+ *   - nothing else writes the lent memory during the call.
+ * Nothing is kept between calls, so calls may run side by side. A job uses up to 512 KiB of stack (docs/TIMINGS.md has what
+ * each was seen to use).
+ *
+ * A chart is text in lines of 12 bytes, a plate in lines of 22. In rows of numbers a position's entry stands at its number,
+ * and DUSHEMQA_NONE stands for "ever" and for "-".
+ *
+ * On a refusal everything that was lent is as it was, a run comes back as it was handed in, and all other numbers of the
+ * answer are 0.
+ */
+#ifndef DUSHEMQA_H
+#define DUSHEMQA_H
+
+#include <stdbool.h>
+#include <stddef.h>
+#include <stdint.h>
+
+#ifdef __cplusplus
+extern "C" {
+#endif
+
+/* The most positions and moves of a chart, and the bytes of the longest chart and the longest plate. */
+#define DUSHEMQA_POSITIONS 512
+#define DUSHEMQA_MOVES 4096
+#define DUSHEMQA_CHART_BYTES 55308
+#define DUSHEMQA_PLATE_BYTES 11286
+
+/* The bytes of a chart's line and of a plate's line. */
+#define DUSHEMQA_CHART_LINE 12
+#define DUSHEMQA_PLATE_LINE 22
+
+/* "ever" as a value or a worth; "-" as a choice, a step or a highest value. */
+#define DUSHEMQA_NONE 65535
+
+/* The most disturbances that a run counts. */
+#define DUSHEMQA_COUNTED 99999
+
+/* The refusals' numbers. 1 to 9 are the chart's, and every job tests them first. */
+enum dushemqa_number {
+    DUSHEMQA_TAKEN = 0,          /* nothing was refused */
+    DUSHEMQA_CHART_LENGTH = 1,   /* chart empty, over 55,308 bytes, or no multiple of 12 */
+    DUSHEMQA_CHART_FORM = 2,     /* letter not allowed at this line, bad field, or no line feed */
+    DUSHEMQA_CHART_LIMITS = 3,   /* count of positions or of moves outside its limits */
+    DUSHEMQA_CHART_COUNT = 4,    /* not as many lines as the first line says */
+    DUSHEMQA_CHART_SEQUENCE = 5, /* position out of sequence, or mark above 1 */
+    DUSHEMQA_CHART_ENDPOINT = 6, /* a move names a position that is not on the chart */
+    DUSHEMQA_CHART_DISTURBED = 7, /* a disturbance from a position of the lane's */
+    DUSHEMQA_CHART_ORDER = 8,    /* a move not above the one before */
+    DUSHEMQA_CHART_NO_MEANT = 9, /* a position without a meant move; the line of the lowest such position */
+    DUSHEMQA_SHORT = 10,         /* a lent buffer or row too short */
+    DUSHEMQA_PLATE_FORM = 11,    /* plate's length not 22 times (positions + 1), or a line not of the plate's form */
+    DUSHEMQA_CHOICE = 12,        /* a choice that is no meant target at O, or not DUSHEMQA_NONE at L */
+    DUSHEMQA_POSITION = 13,      /* a position that is not on the chart */
+    DUSHEMQA_FAULT = 14,         /* checking finds a fault; its position and condition are given */
+    DUSHEMQA_MOVE = 15,          /* the reported move can't follow */
+    DUSHEMQA_COUNT = 16          /* a disturbance with DUSHEMQA_COUNTED or more seen */
+};
+
+/* Whether a job refused, and why. */
+typedef struct {
+    uint32_t number;   /* a number of the list above; DUSHEMQA_TAKEN if nothing was refused */
+    size_t line;       /* counted from 0 in the chart (1 to 9) or the plate (11), else 0 */
+    size_t position;   /* the fault's position (14), else 0; the count of positions if the plate's first line is at fault */
+    uint8_t condition; /* the fault's condition, 1 to 6 (14), else 0 */
+} dushemqa_refusal;
+
+/* What Valuing answers. */
+typedef struct {
+    dushemqa_refusal refusal;
+    uint16_t rounds; /* how many different pairs of value and step occur */
+} dushemqa_valued;
+
+/* What Writing answers. */
+typedef struct {
+    dushemqa_refusal refusal;
+    size_t length; /* the plate's bytes */
+} dushemqa_written;
+
+/* The numbers of a plate's first line after the count of positions. */
+typedef struct {
+    uint16_t rounds;  /* how many different pairs of value and step */
+    uint16_t highest; /* the highest finite value, DUSHEMQA_NONE if there is none */
+    uint16_t evers;   /* how many positions read "ever" */
+} dushemqa_summary;
+
+/* What Reading answers. */
+typedef struct {
+    dushemqa_refusal refusal;
+    dushemqa_summary summary;
+} dushemqa_reading;
+
+/* What Comparing answers. */
+typedef struct {
+    dushemqa_refusal refusal;
+    bool agree;      /* the plate's values and the worths are the same at every position */
+    size_t position; /* the first position where they differ; with it the plate's value and the worth there */
+    uint16_t value;
+    uint16_t worth;
+} dushemqa_compared;
+
+/* A run: keep it as it is handed back. One that dushemqa_start did not begin has no promise beyond what dushemqa_report says. */
+typedef struct {
+    size_t position;  /* where the machine stands */
+    uint32_t seen;    /* the disturbances seen */
+    uint16_t initial; /* the value at the start, DUSHEMQA_NONE for "ever" */
+} dushemqa_run;
+
+/* The plate's choice and value at a position. */
+typedef struct {
+    uint16_t choice;
+    uint16_t value;
+} dushemqa_advice;
+
+/* What a start and a report answer: the run, and the advice at the position that it now holds. */
+typedef struct {
+    dushemqa_refusal refusal;
+    dushemqa_run run;
+    dushemqa_advice advice;
+} dushemqa_step;
+
+/* Valuing: the values, choices and steps of a chart's positions into the first numbers of three rows.
+ *   chart, chart_length      the chart's bytes
+ *   values, values_length    a row for the values; numbers past the last position stay
+ *   choices, choices_length  a row for the choices
+ *   steps, steps_length      a row for the steps
+ * Refusals: 1 to 9; 10 if a row has fewer numbers than the chart has positions. */
+dushemqa_valued dushemqa_value(const uint8_t *chart, size_t chart_length,
+                               uint16_t *values, size_t values_length,
+                               uint16_t *choices, size_t choices_length,
+                               uint16_t *steps, size_t steps_length);
+
+/* Writing: the plate of a chart.
+ *   chart, chart_length  the chart's bytes
+ *   plate, plate_length  a buffer for the plate; bytes past the plate's last line stay. DUSHEMQA_PLATE_BYTES always suffice
+ * Refusals: 1 to 9; 10 if the plate doesn't fit. */
+dushemqa_written dushemqa_write(const uint8_t *chart, size_t chart_length,
+                                uint8_t *plate, size_t plate_length);
+
+/* Reading: a plate of a chart into three rows. It looks at the plate's form and not at whether the plate is right.
+ *   chart, chart_length      the chart's bytes
+ *   plate, plate_length      the plate's bytes
+ *   values, values_length    a row for the values; numbers past the last position stay
+ *   choices, choices_length  a row for the choices
+ *   steps, steps_length      a row for the steps
+ * Refusals: 1 to 9; 10 if a row has fewer numbers than the chart has positions; 11. */
+dushemqa_reading dushemqa_read(const uint8_t *chart, size_t chart_length,
+                               const uint8_t *plate, size_t plate_length,
+                               uint16_t *values, size_t values_length,
+                               uint16_t *choices, size_t choices_length,
+                               uint16_t *steps, size_t steps_length);
+
+/* Checking: whether anybody's plate is right for a chart. Taken: its values are those of the positions, and its choices make
+ * an optimal controller.
+ *   chart, chart_length  the chart's bytes
+ *   plate, plate_length  the plate's bytes
+ * Refusals: 1 to 9; 11; 14 with the first fault. */
+dushemqa_refusal dushemqa_check(const uint8_t *chart, size_t chart_length,
+                                const uint8_t *plate, size_t plate_length);
+
+/* Weighing: the worths of the positional controller that makes given choices.
+ *   chart, chart_length      the chart's bytes
+ *   choices, choices_length  a choice for each position, DUSHEMQA_NONE at L
+ *   worths, worths_length    a row for the worths; numbers past the last position stay
+ * Refusals: 1 to 9; 10 if a row has fewer numbers than the chart has positions; 12. */
+dushemqa_refusal dushemqa_weigh(const uint8_t *chart, size_t chart_length,
+                                const uint16_t *choices, size_t choices_length,
+                                uint16_t *worths, size_t worths_length);
+
+/* Comparing: a plate's values against the worths of the positional controller that makes given choices.
+ *   chart, chart_length      the chart's bytes
+ *   plate, plate_length      the plate's bytes
+ *   choices, choices_length  a choice for each position, DUSHEMQA_NONE at L
+ * Refusals: 1 to 9; 10 if there are fewer choices than positions; 11; 12; 14 with the first fault. */
+dushemqa_compared dushemqa_compare(const uint8_t *chart, size_t chart_length,
+                                   const uint8_t *plate, size_t plate_length,
+                                   const uint16_t *choices, size_t choices_length);
+
+/* Start: a run on a plate that checking accepts.
+ *   chart, chart_length  the chart's bytes
+ *   plate, plate_length  the plate's bytes
+ *   position             where the machine stands
+ * Refusals: 1 to 9; 11; 13; 14 with the first fault. The run of a refused start is all 0, and none to go on with. */
+dushemqa_step dushemqa_start(const uint8_t *chart, size_t chart_length,
+                             const uint8_t *plate, size_t plate_length,
+                             size_t position);
+
+/* Report: the machine went to a position. While the same two texts are lent, the value at the run's position plus the
+ * disturbances seen is at least the value at its start. The plate's form is tested, and not again whether it is right.
+ *   run                  as the start or the last report handed it back
+ *   chart, chart_length  the chart's bytes
+ *   plate, plate_length  the plate's bytes
+ *   to                   where the machine went
+ * Refusals: 1 to 9; 11; 13 for `to` or for the run's own position; 15; 16. */
+dushemqa_step dushemqa_report(dushemqa_run run,
+                              const uint8_t *chart, size_t chart_length,
+                              const uint8_t *plate, size_t plate_length,
+                              size_t to);
+
+#ifdef __cplusplus
+}
+#endif
+
+#endif

@@ -1,0 +1,45 @@
+-- What each exported function answers: all that the library's job of its name promises, and that job's answer in numbers.
+use Prim.Native.Nat.{ℕ}
+use mathlib.Core.Path.{_≡_}
+use mathlib.Core.List.{List}
+use Rattle.value.specs.Valuing.{ValuedIs}
+use Rattle.value.specs.Weighing.{WeighedIs}
+use Rattle.value.specs.declared.valuing.Valued.{Valued}
+use Rattle.value.specs.declared.weighing.Weighed.{Weighed}
+use Rattle.plate.specs.Reading.{ReadingIs}
+use Rattle.plate.specs.declared.reading.Reading.{Reading}
+use Rattle.writing.specs.Writing.{WrittenIs}
+use Rattle.writing.specs.declared.Written.{Written}
+use Rattle.compare.specs.Compared.{ComparedIs}
+use Rattle.compare.specs.declared.Compared.{Compared}
+use Rattle.audit.specs.declared.Numbers.{Numbers}
+use Rattle.capi.specs.Numbers.{comparedNumbers, readingNumbers, valuedNumbers, weighedNumbers, writtenNumbers}
+use Rattle.capi.specs.declared.answers.ValuedNumbers.{ValuedNumbers}
+use Rattle.capi.specs.declared.answers.WrittenNumbers.{WrittenNumbers}
+use Rattle.capi.specs.declared.answers.ReadingNumbers.{ReadingNumbers}
+use Rattle.capi.specs.declared.answers.ComparedNumbers.{ComparedNumbers}
+
+pub record ValuedAs (text values values′ choices choices′ steps steps′ : List ℕ) (r : ValuedNumbers) : Type 0 where
+  pub answer : Valued
+  pub job : ValuedIs text values values′ choices choices′ steps steps′ answer
+  pub numbers : r ≡ valuedNumbers answer
+
+pub record WrittenAs (text out out′ : List ℕ) (r : WrittenNumbers) : Type 0 where
+  pub answer : Written
+  pub job : WrittenIs text out out′ answer
+  pub numbers : r ≡ writtenNumbers answer
+
+pub record ReadAs (text plate values values′ choices choices′ steps steps′ : List ℕ) (r : ReadingNumbers) : Type 0 where
+  pub answer : Reading
+  pub job : ReadingIs text plate values values′ choices choices′ steps steps′ answer
+  pub numbers : r ≡ readingNumbers answer
+
+pub record WeighedAs (text choices worths worths′ : List ℕ) (r : Numbers) : Type 0 where
+  pub answer : Weighed
+  pub job : WeighedIs text choices worths worths′ answer
+  pub numbers : r ≡ weighedNumbers answer
+
+pub record ComparedAs (text plate choices : List ℕ) (r : ComparedNumbers) : Type 0 where
+  pub answer : Compared
+  pub job : ComparedIs text plate choices answer
+  pub numbers : r ≡ comparedNumbers answer

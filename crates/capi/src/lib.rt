@@ -1,0 +1,104 @@
+// The C interface: each of the library's jobs as a function on pointers and lengths, thin over the job. `c/dushemqa.h` declares them.
+// What is lent and the run are the caller's own; nothing is kept.
+ghost use mathlib.Core.Path.{_≡_};
+ghost use Rattle.audit.specs.Checking.{checked, numbersOf};
+ghost use Rattle.run.specs.Running.{reported, started};
+ghost use Rattle.capi.specs.Numbers.{reportedNumbers, startedNumbers};
+ghost use Rattle.capi.specs.Exports.{ComparedAs, ReadAs, ValuedAs, WeighedAs, WrittenAs};
+use crate::answers::ComparedNumbers;
+use crate::answers::ReadingNumbers;
+use crate::answers::Step;
+use crate::answers::ValuedNumbers;
+use crate::answers::WrittenNumbers;
+use crate::answers::compared_numbers;
+use crate::answers::reading_numbers;
+use crate::answers::reported_numbers;
+use crate::answers::started_numbers;
+use crate::answers::valued_numbers;
+use crate::answers::weighed_numbers;
+use crate::answers::written_numbers;
+use audit::Numbers;
+use audit::check;
+use compare::compare;
+use plate::reading::read_plate;
+use run::Run;
+use value::valuing::value_chart;
+use value::weighing::weigh_chart;
+use writing::write_plate;
+
+pub mod answers;
+
+// Valuing.
+#[no_mangle]
+pub extern "C" fn dushemqa_value(
+    text: &[u8],
+    values: &mut [u16],
+    choices: &mut [u16],
+    steps: &mut [u16],
+) -> ValuedNumbers
+    ensures { λ r. ⌜ ValuedAs (now (text .entry)) (now (values .entry)) (now (values .exit)) (now (choices .entry)) (now (choices .exit)) (now (steps .entry)) (now (steps .exit)) r ⌝ }
+{
+    valued_numbers(value_chart(text, values, choices, steps))
+}
+
+// Writing.
+#[no_mangle]
+pub extern "C" fn dushemqa_write(text: &[u8], out: &mut [u8]) -> WrittenNumbers
+    ensures { λ r. ⌜ WrittenAs (now (text .entry)) (now (out .entry)) (now (out .exit)) r ⌝ }
+{
+    written_numbers(write_plate(text, out))
+}
+
+// Reading.
+#[no_mangle]
+pub extern "C" fn dushemqa_read(
+    text: &[u8],
+    plate: &[u8],
+    values: &mut [u16],
+    choices: &mut [u16],
+    steps: &mut [u16],
+) -> ReadingNumbers
+    ensures { λ r. ⌜ ReadAs (now (text .entry)) (now (plate .entry)) (now (values .entry)) (now (values .exit)) (now (choices .entry)) (now (choices .exit)) (now (steps .entry)) (now (steps .exit)) r ⌝ }
+{
+    reading_numbers(read_plate(text, plate, values, choices, steps))
+}
+
+// Checking.
+#[no_mangle]
+pub extern "C" fn dushemqa_check(text: &[u8], plate: &[u8]) -> Numbers
+    ensures { λ r. ⌜ r ≡ numbersOf (checked (now (text .entry)) (now (plate .entry))) ⌝ }
+{
+    check(text, plate).numbers()
+}
+
+// Weighing.
+#[no_mangle]
+pub extern "C" fn dushemqa_weigh(text: &[u8], choices: &[u16], worths: &mut [u16]) -> Numbers
+    ensures { λ r. ⌜ WeighedAs (now (text .entry)) (now (choices .entry)) (now (worths .entry)) (now (worths .exit)) r ⌝ }
+{
+    weighed_numbers(weigh_chart(text, choices, worths))
+}
+
+// Comparing.
+#[no_mangle]
+pub extern "C" fn dushemqa_compare(text: &[u8], plate: &[u8], choices: &[u16]) -> ComparedNumbers
+    ensures { λ r. ⌜ ComparedAs (now (text .entry)) (now (plate .entry)) (now (choices .entry)) r ⌝ }
+{
+    compared_numbers(compare(text, plate, choices))
+}
+
+// Start.
+#[no_mangle]
+pub extern "C" fn dushemqa_start(text: &[u8], plate: &[u8], position: usize) -> Step
+    ensures { λ r. ⌜ r ≡ startedNumbers (started (now (text .entry)) (now (plate .entry)) position) ⌝ }
+{
+    started_numbers(Run::start(text, plate, position))
+}
+
+// Report.
+#[no_mangle]
+pub extern "C" fn dushemqa_report(run: Run, text: &[u8], plate: &[u8], to: usize) -> Step
+    ensures { λ r. ⌜ r ≡ reportedNumbers (reported run (now (text .entry)) (now (plate .entry)) to) ⌝ }
+{
+    reported_numbers(run.report(text, plate, to))
+}
