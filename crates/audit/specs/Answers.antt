@@ -10,7 +10,7 @@ use Rattle.chart.specs.declared.Chart.{Chart}
 use Rattle.chart.specs.declared.Examination.the-variants.{Accepted as Taken, Refused as Turned}
 use Rattle.plate.specs.Form.{OfForm, BadAt}
 use Rattle.plate.specs.Read.{headerIn, valueIn, choiceIn, stepIn}
-use Rattle.audit.specs.Verdict.{FirstFaultIs, HeaderIs}
+use Rattle.verdict.specs.Verdict.{FirstFaultIs, HeaderIs}
 use Rattle.audit.specs.declared.Checked.{Checked}
 use Rattle.audit.specs.declared.Checked.the-variants.{Accepted, Refused, Form, Fault}
 

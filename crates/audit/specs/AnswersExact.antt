@@ -7,7 +7,7 @@ use mathlib.Core.List.{List}
 use Rattle.chart.specs.Meaning.{arenaOf}
 use Rattle.chart.specs.Examined.{examined}
 use Rattle.chart.specs.declared.Chart.{Chart}
-use Rattle.chart.specs.declared.Refusal.{Refusal}
+use Rattle.refusal.specs.declared.Refusal.{Refusal}
 use Rattle.chart.specs.declared.Examination.{Examination}
 use Rattle.chart.specs.declared.Examination.the-variants.{Accepted as Taken, Refused as Turned}
 use Rattle.plate.specs.Form.{OfForm}
@@ -16,12 +16,12 @@ use Rattle.plate.specs.Exact.{form-exact, bad-line-exact}
 use Rattle.plate.specs.Read.{headerIn, valueIn, choiceIn, stepIn}
 use Rattle.plate.specs.declared.Form.{Form as PlateForm}
 use Rattle.plate.specs.declared.Form.the-variants.{Good, Bad}
-use Rattle.audit.specs.Verdict.{verdictOf}
-use Rattle.audit.specs.Exact.{sound-exactly, first-fault-exactly}
+use Rattle.verdict.specs.Verdict.{verdictOf}
+use Rattle.verdict.specs.Exact.{sound-exactly, first-fault-exactly}
 use Rattle.audit.specs.Checking.{answerOf, chartChecked, checked, plateChecked}
 use Rattle.audit.specs.Answers.{FormIs, AnswerIs}
-use Rattle.audit.specs.declared.rows.Verdict.{Verdict}
-use Rattle.audit.specs.declared.rows.Verdict.the-variants.{Sound, Fault}
+use Rattle.verdict.specs.declared.rows.Verdict.{Verdict}
+use Rattle.verdict.specs.declared.rows.Verdict.the-variants.{Sound, Fault}
 use Rattle.audit.specs.declared.Checked.{Checked}
 use Rattle.audit.specs.declared.Checked.the-variants.{Accepted, Refused, Form, Fault as Faulty}
 

@@ -4,10 +4,10 @@ use Prim.Native.Nat.{ℕ}
 use mathlib.Core.Path.{_≡_}
 use mathlib.Core.List.{List}
 use Rattle.game.specs.Arena.{Arena, positionAt}
-use Rattle.chart.specs.Rows.{RowIs}
+use Rattle.decode.specs.Rows.{RowIs}
 use Rattle.chart.specs.Meaning.{arenaOf}
 use Rattle.chart.specs.Examined.{examined}
-use Rattle.chart.specs.Refusals.{refusalNumber, refusalLine}
+use Rattle.refusal.specs.Numbers.{refusalNumber, refusalLine}
 use Rattle.chart.specs.declared.Examination.{Examination}
 use Rattle.chart.specs.declared.Examination.the-variants.{Accepted as Taken, Refused as Turned}
 use Rattle.solver.specs.Held.{Decoded}
@@ -15,9 +15,9 @@ use Rattle.plate.specs.Formed.{formOf}
 use Rattle.plate.specs.Read.{headerIn, valueIn, choiceIn, stepIn}
 use Rattle.plate.specs.declared.Form.{Form as PlateForm}
 use Rattle.plate.specs.declared.Form.the-variants.{Good, Bad}
-use Rattle.audit.specs.Verdict.{verdictOf}
-use Rattle.audit.specs.declared.rows.Verdict.{Verdict}
-use Rattle.audit.specs.declared.rows.Verdict.the-variants.{Sound, Fault}
+use Rattle.verdict.specs.Verdict.{verdictOf}
+use Rattle.verdict.specs.declared.rows.Verdict.{Verdict}
+use Rattle.verdict.specs.declared.rows.Verdict.the-variants.{Sound, Fault}
 use Rattle.audit.specs.declared.Numbers.{Numbers}
 use Rattle.audit.specs.declared.Checked.{Checked}
 use Rattle.audit.specs.declared.Checked.the-variants.{Accepted, Refused, Form, Fault as Faulty}

@@ -7,16 +7,16 @@ use mathlib.Core.List.{List}
 use Rattle.game.specs.Value.{Value, fin, ever, numberOf}
 use Rattle.game.specs.Arena.{Arena, size, positionAt}
 use Rattle.game.specs.Play.{targetOf}
-use Rattle.chart.specs.Rows.{RowIs}
+use Rattle.decode.specs.Rows.{RowIs}
 use Rattle.chart.specs.Meaning.{arenaOf}
 use Rattle.chart.specs.Examined.{examined}
 use Rattle.chart.specs.Accepted.{accepted-chartable, accepted-moves, froms-rise}
 use Rattle.chart.specs.declared.Chart.{Chart}
-use Rattle.chart.specs.declared.Refusal.{Refusal}
+use Rattle.refusal.specs.declared.Refusal.{Refusal}
 use Rattle.chart.specs.declared.Examination.the-variants.{Accepted as Taken, Refused as Turned}
 use Rattle.solver.specs.Held.{Decoded}
-use Rattle.solver.specs.Summarize.{rowValue}
-use Rattle.solver.specs.declared.summary.Summary.{Summary}
+use Rattle.choice.specs.Summarize.{rowValue}
+use Rattle.choice.specs.declared.summary.Summary.{Summary}
 use Rattle.plate.specs.Form.{OfForm}
 use Rattle.plate.specs.Formed.{formOf}
 use Rattle.plate.specs.Exact.{form-exact}
@@ -26,12 +26,12 @@ use Rattle.plate.specs.RangeLaws.{below-fits}
 use Rattle.plate.specs.RoundTrip.{read-in-range}
 use Rattle.plate.specs.RowTrip.{Agree, row-column}
 use Rattle.plate.specs.declared.Form.the-variants.{Good, Bad}
-use Rattle.audit.specs.Verdict.{verdictOf}
-use Rattle.audit.specs.Sheet.{Ascending, Formed, sheet}
-use Rattle.audit.specs.RowsChecked.{RowsChecked}
+use Rattle.verdict.specs.Verdict.{verdictOf}
+use Rattle.verdict.specs.Sheet.{Ascending, Formed, sheet}
+use Rattle.verdict.specs.RowsChecked.{RowsChecked}
 use Rattle.audit.specs.Checking.{PlateIs, answerOf, chartChecked, checked, plateChecked}
-use Rattle.audit.specs.SameFault.{verdict-same}
-use Rattle.audit.specs.declared.rows.Verdict.{Verdict}
+use Rattle.verdict.specs.SameFault.{verdict-same}
+use Rattle.verdict.specs.declared.rows.Verdict.{Verdict}
 use Rattle.audit.specs.declared.Checked.{Checked}
 use Rattle.audit.specs.declared.Checked.the-variants.{Refused, Form}
 

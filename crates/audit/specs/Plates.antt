@@ -21,20 +21,20 @@ use Rattle.chart.specs.Accepted.{accepted-chartable, accepted-size}
 use Rattle.chart.specs.declared.Chart.{Chart}
 use Rattle.chart.specs.declared.Examination.the-variants.{Accepted as Taken}
 use Rattle.value.specs.ValuingLaws.{highest-same}
-use Rattle.solver.specs.declared.summary.Summary.{Summary}
+use Rattle.choice.specs.declared.summary.Summary.{Summary}
 use Rattle.plate.specs.Text.{plateText}
 use Rattle.plate.specs.Form.{OfForm}
 use Rattle.plate.specs.Range.{Below, InRange}
 use Rattle.plate.specs.Read.{headerIn, valueIn, choiceIn, stepIn}
 use Rattle.plate.specs.RoundTrip.{set-out-is-of-form, reading-undoes-writing}
-use Rattle.audit.specs.Verdict.{HeaderIs, RightPlate, verdictOf}
-use Rattle.audit.specs.Accepted.{accepted-is-right, right-is-accepted}
-use Rattle.audit.specs.Exact.{sound-exactly}
-use Rattle.audit.specs.SameFault.{verdict-same}
+use Rattle.verdict.specs.Verdict.{HeaderIs, RightPlate, verdictOf}
+use Rattle.verdict.specs.Accepted.{accepted-is-right, right-is-accepted}
+use Rattle.verdict.specs.Exact.{sound-exactly}
+use Rattle.verdict.specs.SameFault.{verdict-same}
 use Rattle.audit.specs.Checking.{checked}
 use Rattle.audit.specs.CheckingLaws.{target-inside}
 use Rattle.audit.specs.AnswersExact.{accepted-of, answer-exactly}
-use Rattle.audit.specs.declared.rows.Verdict.the-variants.{Sound}
+use Rattle.verdict.specs.declared.rows.Verdict.the-variants.{Sound}
 use Rattle.audit.specs.declared.Checked.the-variants.{Accepted}
 
 pub accepted-plate-is-right : (text plate : List ℕ) → checked text plate ≡ Accepted → RightPlate (arenaOf text) (valueIn plate) (choiceIn plate)

@@ -5,19 +5,16 @@ ghost use lib.ListN.{length};
 ghost use Rattle.solver.specs.Solve.{Within};
 ghost use Rattle.value.specs.Valuing.{Decodable};
 ghost use Rattle.plate.specs.Formed.{formOf};
-ghost use Rattle.audit.specs.Sheet.{Ascending};
+ghost use Rattle.verdict.specs.Sheet.{Ascending};
 ghost use Rattle.audit.specs.Checking.{PlateIs, checked, numbersFrom, numbersOf};
-use crate::rows::Verdict;
-use crate::rows::check_rows;
 use chart::Examination;
-use chart::Refusal;
-use chart::load;
+use decode::load;
 use plate::Form;
 use plate::examine_plate;
 use plate::read_rows;
-
-pub mod position;
-pub mod rows;
+use refusal::Refusal;
+use verdict::rows::Verdict;
+use verdict::rows::check_rows;
 
 // What Checking answers: accepted, the chart's refusal, 11 with the plate's line, or 14 with position and condition.
 pub enum Checked {

@@ -3,9 +3,9 @@ use Prim.Native.Nat.{ℕ}
 use mathlib.Core.Path.{_≡_}
 use mathlib.Core.List.{List}
 use Rattle.value.specs.Valuing.{ValuedIs}
-use Rattle.value.specs.Weighing.{WeighedIs}
+use Rattle.weighing.specs.Weighing.{WeighedIs}
 use Rattle.value.specs.declared.valuing.Valued.{Valued}
-use Rattle.value.specs.declared.weighing.Weighed.{Weighed}
+use Rattle.weighing.specs.declared.Weighed.{Weighed}
 use Rattle.plate.specs.Reading.{ReadingIs}
 use Rattle.plate.specs.declared.reading.Reading.{Reading}
 use Rattle.writing.specs.Writing.{WrittenIs}
@@ -13,11 +13,11 @@ use Rattle.writing.specs.declared.Written.{Written}
 use Rattle.compare.specs.Compared.{ComparedIs}
 use Rattle.compare.specs.declared.Compared.{Compared}
 use Rattle.audit.specs.declared.Numbers.{Numbers}
-use Rattle.capi.specs.Numbers.{comparedNumbers, readingNumbers, valuedNumbers, weighedNumbers, writtenNumbers}
-use Rattle.capi.specs.declared.answers.ValuedNumbers.{ValuedNumbers}
-use Rattle.capi.specs.declared.answers.WrittenNumbers.{WrittenNumbers}
-use Rattle.capi.specs.declared.answers.ReadingNumbers.{ReadingNumbers}
-use Rattle.capi.specs.declared.answers.ComparedNumbers.{ComparedNumbers}
+use Rattle.answers.specs.Numbers.{comparedNumbers, readingNumbers, valuedNumbers, weighedNumbers, writtenNumbers}
+use Rattle.answers.specs.declared.ValuedNumbers.{ValuedNumbers}
+use Rattle.answers.specs.declared.WrittenNumbers.{WrittenNumbers}
+use Rattle.answers.specs.declared.ReadingNumbers.{ReadingNumbers}
+use Rattle.answers.specs.declared.ComparedNumbers.{ComparedNumbers}
 
 pub record ValuedAs (text values values′ choices choices′ steps steps′ : List ℕ) (r : ValuedNumbers) : Type 0 where
   pub answer : Valued

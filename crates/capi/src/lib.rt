@@ -3,30 +3,28 @@
 ghost use mathlib.Core.Path.{_≡_};
 ghost use Rattle.audit.specs.Checking.{checked, numbersOf};
 ghost use Rattle.run.specs.Running.{reported, started};
-ghost use Rattle.capi.specs.Numbers.{reportedNumbers, startedNumbers};
+ghost use Rattle.answers.specs.Numbers.{reportedNumbers, startedNumbers};
 ghost use Rattle.capi.specs.Exports.{ComparedAs, ReadAs, ValuedAs, WeighedAs, WrittenAs};
-use crate::answers::ComparedNumbers;
-use crate::answers::ReadingNumbers;
-use crate::answers::Step;
-use crate::answers::ValuedNumbers;
-use crate::answers::WrittenNumbers;
-use crate::answers::compared_numbers;
-use crate::answers::reading_numbers;
-use crate::answers::reported_numbers;
-use crate::answers::started_numbers;
-use crate::answers::valued_numbers;
-use crate::answers::weighed_numbers;
-use crate::answers::written_numbers;
+use answers::ComparedNumbers;
+use answers::ReadingNumbers;
+use answers::Step;
+use answers::ValuedNumbers;
+use answers::WrittenNumbers;
+use answers::compared_numbers;
+use answers::reading_numbers;
+use answers::reported_numbers;
+use answers::started_numbers;
+use answers::valued_numbers;
+use answers::weighed_numbers;
+use answers::written_numbers;
 use audit::Numbers;
 use audit::check;
 use compare::compare;
 use plate::reading::read_plate;
 use run::Run;
 use value::valuing::value_chart;
-use value::weighing::weigh_chart;
+use weighing::weigh_chart;
 use writing::write_plate;
-
-pub mod answers;
 
 // Valuing.
 #[no_mangle]

@@ -16,7 +16,7 @@ use Rattle.chart.specs.Text.{letterAt, positionsOf, movesOf, fromAt, toA
 use Rattle.chart.specs.Meaning.{ownerOf, costOf, positionOn, moveOn, arenaOf, Rises, Chartable}
 use Rattle.chart.specs.Examined.{above, rises, meantLine, meantIn, examined}
 use Rattle.chart.specs.Good.{GoodChart, accepted-good}
-use Rattle.chart.specs.Filled.{arena-size, arena-moves, arena-position, arena-move}
+use Rattle.chart.specs.Arenas.{arena-size, arena-moves, arena-position, arena-move}
 use Rattle.chart.specs.declared.Chart.{Chart}
 use Rattle.chart.specs.declared.Examination.the-variants.{Accepted}
 

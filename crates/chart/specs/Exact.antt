@@ -13,7 +13,8 @@ use lib.ListN.{length}
 use lib.Dec.{ltb, eqb}
 use borrow.Author.Tests.{ltb-true, ltb-false, eqb-true, eqb-false, eq-eqb}
 use Rattle.chart.specs.Text.{letterAt, positionsOf, movesOf, fromAt}
-use Rattle.chart.specs.Refusals.{refusalNumber, refusalLine, stage, PositionLine, BadLength, BadForm, OutOfSequence, BadEndpoint, BadDisturbance, OutOfOrder, WithoutMeant, Applies, Before, First}
+use Rattle.refusal.specs.Numbers.{refusalNumber, refusalLine}
+use Rattle.chart.specs.Refusals.{stage, PositionLine, BadLength, BadForm, OutOfSequence, BadEndpoint, BadDisturbance, OutOfOrder, WithoutMeant, Applies, Before, First}
 use Rattle.chart.specs.Examined.{headerOf, lineFinding, orElse, firstOf, meantLine, meantIn, missingAt, answer, afterHeader, linesAfter, examined}
 use Rattle.chart.specs.First.{FirstAt, first-clean, first-found}
 use Rattle.chart.specs.Header.{header-accepts}
@@ -21,8 +22,8 @@ use Rattle.chart.specs.Good.{missing-clean}
 use Rattle.chart.specs.Accepted.{meant-line}
 use Rattle.chart.specs.LineExact.{Free, LineExact, findingOf, header-exact, line-exact}
 use Rattle.chart.specs.declared.Chart.{Chart}
-use Rattle.chart.specs.declared.Refusal.{Refusal}
-use Rattle.chart.specs.declared.Refusal.the-variants.{Length, Form, Limits, Count, Sequence, Endpoint, Disturbed, Order, NoMeant}
+use Rattle.refusal.specs.declared.Refusal.{Refusal}
+use Rattle.refusal.specs.declared.Refusal.the-variants.{Length, Form, Limits, Count, Sequence, Endpoint, Disturbed, Order, NoMeant}
 use Rattle.chart.specs.declared.Finding.{Finding}
 use Rattle.chart.specs.declared.Finding.the-variants.{Clean, Fault}
 use Rattle.chart.specs.declared.Examination.{Examination}

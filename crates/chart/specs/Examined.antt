@@ -10,7 +10,7 @@ use Rattle.field.specs.declared.Field.{Field}
 use Rattle.chart.specs.Text.{letterAt, firstAt, secondAt, endAt, markAt, numberOf, isNumber, positionsOf, movesOf, fromAt, toAt}
 use Rattle.chart.specs.Meaning.{costOf}
 use Rattle.chart.specs.declared.Chart.{Chart}
-use Rattle.chart.specs.declared.Refusal.the-variants.{Length, Form, Limits, Count, Sequence, Endpoint, Disturbed, Order, NoMeant}
+use Rattle.refusal.specs.declared.Refusal.the-variants.{Length, Form, Limits, Count, Sequence, Endpoint, Disturbed, Order, NoMeant}
 use Rattle.chart.specs.declared.Finding.{Finding}
 use Rattle.chart.specs.declared.Finding.the-variants.{Clean, Fault}
 use Rattle.chart.specs.declared.Examination.{Examination}

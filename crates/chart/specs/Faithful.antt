@@ -20,13 +20,13 @@ use Rattle.chart.specs.Meaning.{ownerOf, ownerLetter, costOf, costLetter
 use Rattle.chart.specs.Examined.{examined}
 use Rattle.chart.specs.Good.{Formed, GoodPosition, GoodMove, GoodChart, accepted-good}
 use Rattle.chart.specs.Accepted.{member-at, at-member}
-use Rattle.chart.specs.Filled.{on-lines-length}
+use Rattle.chart.specs.Arenas.{on-lines-length}
 use Rattle.chart.specs.Lines.{Reads, line-length, reads-line, line-reads, lines-text, lines-length, lines-at}
 use Rattle.chart.specs.Refusals.{PositionLine, MoveLine, Allowed, BadLength, BadForm, OutsideLimits, WrongCount, OutOfSequence, BadEndpoint, BadDisturbance, OutOfOrder, WithoutMeant, Applies}
 use Rattle.chart.specs.LineExact.{form-good}
 use Rattle.chart.specs.Exact.{accepted-exactly}
-use Rattle.chart.specs.declared.Refusal.{Refusal}
-use Rattle.chart.specs.declared.Refusal.the-variants.{Length, Form, Limits, Count, Sequence, Endpoint, Disturbed, Order, NoMeant}
+use Rattle.refusal.specs.declared.Refusal.{Refusal}
+use Rattle.refusal.specs.declared.Refusal.the-variants.{Length, Form, Limits, Count, Sequence, Endpoint, Disturbed, Order, NoMeant}
 use Rattle.chart.specs.declared.Chart.{Chart}
 use Rattle.chart.specs.declared.Examination.the-variants.{Accepted}
 

@@ -9,7 +9,7 @@ use lib.Seq.{getD-set-same, getD-set-other}
 use lib.Dec.{eqb}
 use borrow.Author.Tests.{eqb-true, eqb-false}
 use Rattle.chart.specs.Examined.{meantLine, meantIn, missingAt, unflaggedAt}
-use Rattle.chart.specs.declared.Refusal.the-variants.{NoMeant}
+use Rattle.refusal.specs.declared.Refusal.the-variants.{NoMeant}
 use Rattle.chart.specs.declared.Finding.the-variants.{Clean, Fault}
 
 -- a flag that is set at `from`

@@ -16,7 +16,7 @@ use Rattle.chart.specs.Examined.{numbered, formed, headerFormed, positio
 use Rattle.chart.specs.First.{first-clean}
 use Rattle.chart.specs.Header.{WithinLimits, header-accepts}
 use Rattle.chart.specs.declared.Chart.{Chart}
-use Rattle.chart.specs.declared.Refusal.{Refusal}
+use Rattle.refusal.specs.declared.Refusal.{Refusal}
 use Rattle.chart.specs.declared.Finding.{Finding}
 use Rattle.chart.specs.declared.Finding.the-variants.{Clean, Fault}
 use Rattle.chart.specs.declared.Examination.{Examination}

@@ -1,18 +1,16 @@
--- What a reader must believe: columns, meaning, refusals, the computed answer, rows, what loading leaves.
+-- What a reader must believe: columns, meaning, refusals, the computed answer.
 pub mod Text
 pub mod Meaning
 pub mod Refusals
 pub mod Examined
-pub mod Rows
-pub mod Loaded
--- Laws that callers cite: Exact (refusals), Accepted (the arena of an accepted text), Faithful (texts and arenas), Filled (rows).
+-- Laws that callers cite: Exact (refusals), Accepted (the arena of an accepted text), Faithful (texts and arenas).
 -- The others lead to them.
 pub mod Columns
 pub mod First
 pub mod Flags
 pub mod Header
 pub mod Good
-pub mod Filled
+pub mod Arenas
 pub mod Accepted
 pub mod LineExact
 pub mod Exact

@@ -14,12 +14,13 @@ use Rattle.field.specs.declared.Field.{Field}
 use Rattle.field.specs.declared.Field.the-variants.{Number, Bad}
 use Rattle.chart.specs.Text.{letterAt, firstAt, secondAt, endAt, markAt, numberOf, isNumber, positionsOf, movesOf, fromAt, toAt}
 use Rattle.chart.specs.Meaning.{moveOn, Rises}
-use Rattle.chart.specs.Refusals.{refusalNumber, refusalLine, stage, PositionLine, MoveLine, BadForm, Allowed, OutsideLimits, WrongCount, OutOfSequence, BadEndpoint, BadDisturbance, OutOfOrder, Applies}
+use Rattle.refusal.specs.Numbers.{refusalNumber, refusalLine}
+use Rattle.chart.specs.Refusals.{stage, PositionLine, MoveLine, BadForm, Allowed, OutsideLimits, WrongCount, OutOfSequence, BadEndpoint, BadDisturbance, OutOfOrder, Applies}
 use Rattle.chart.specs.Examined.{numbered, formed, headerFormed, positionFormed, moveFormed, limitsOf, headerOf, judgedPosition, positionFinding, above, rises, ordered, judgedMove, moveFinding, lineFinding}
 use Rattle.chart.specs.Good.{Formed, position-form, move-form, header-form, line-position, line-move}
 use Rattle.chart.specs.Accepted.{line-rises}
-use Rattle.chart.specs.declared.Refusal.{Refusal}
-use Rattle.chart.specs.declared.Refusal.the-variants.{Length, Form, Limits, Count, Sequence, Endpoint, Disturbed, Order, NoMeant}
+use Rattle.refusal.specs.declared.Refusal.{Refusal}
+use Rattle.refusal.specs.declared.Refusal.the-variants.{Length, Form, Limits, Count, Sequence, Endpoint, Disturbed, Order, NoMeant}
 use Rattle.chart.specs.declared.Finding.{Finding}
 use Rattle.chart.specs.declared.Finding.the-variants.{Clean, Fault}
 use Rattle.chart.specs.declared.Examination.{Examination}

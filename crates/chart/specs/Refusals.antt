@@ -8,32 +8,9 @@ use lib.ListN.{length}
 use Rattle.field.specs.declared.Field.the-variants.{Bad}
 use Rattle.chart.specs.Text.{letterAt, firstAt, secondAt, endAt, markAt, numberOf, positionsOf, movesOf, fromAt, toAt}
 use Rattle.chart.specs.Meaning.{moveOn, Rises}
-use Rattle.chart.specs.declared.Refusal.{Refusal}
-use Rattle.chart.specs.declared.Refusal.the-variants.{Length, Form, Limits, Count, Sequence, Endpoint, Disturbed, Order, NoMeant}
-
--- the table's column "No."
-abbrev pub refusalNumber : Refusal → ℕ
-refusalNumber Length = 1
-refusalNumber (Form line) = 2
-refusalNumber Limits = 3
-refusalNumber Count = 4
-refusalNumber (Sequence line) = 5
-refusalNumber (Endpoint line) = 6
-refusalNumber (Disturbed line) = 7
-refusalNumber (Order line) = 8
-refusalNumber (NoMeant line) = 9
-
--- "A refusal gives a number and a line, counted from 0 in the chart"
-abbrev pub refusalLine : Refusal → ℕ
-refusalLine Length = 0
-refusalLine (Form line) = line
-refusalLine Limits = 0
-refusalLine Count = 0
-refusalLine (Sequence line) = line
-refusalLine (Endpoint line) = line
-refusalLine (Disturbed line) = line
-refusalLine (Order line) = line
-refusalLine (NoMeant line) = line
+use Rattle.refusal.specs.Numbers.{refusalNumber, refusalLine}
+use Rattle.refusal.specs.declared.Refusal.{Refusal}
+use Rattle.refusal.specs.declared.Refusal.the-variants.{Length, Form, Limits, Count, Sequence, Endpoint, Disturbed, Order, NoMeant}
 
 -- lines 1 to n are positions, the m lines after them are moves
 abbrev pub PositionLine : List ℕ → ℕ → Type 0

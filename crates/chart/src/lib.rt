@@ -6,13 +6,11 @@ ghost use mathlib.Core.Bool.{cond};
 ghost use Prim.Native.Nat.{ℕ, _+_, _*_, _≤_, _<_};
 ghost use lib.ListN.{length, getD};
 ghost use Rattle.chart.specs.Text.{letterAt, markAt, fromAt, toAt, numberOf, isNumber};
-ghost use Rattle.chart.specs.Meaning.{ownerOf, costOf};
-ghost use Rattle.chart.specs.Refusals.{refusalNumber, refusalLine};
-ghost use Rattle.chart.specs.Rows.{ownerNumber};
-ghost use Rattle.chart.specs.Loaded.{PositionRows, MoveRows, LoadIs};
+ghost use Rattle.chart.specs.Meaning.{costOf};
 ghost use Rattle.chart.specs.Examined.{numbered, formed, headerOf, limitsOf, positionFinding, judgedPosition, moveFinding, judgedMove, ordered, rises, above, lineFinding, firstOf, meantLine, meantIn, missingAt, unflaggedAt, afterHeader, examined};
 use field::Field;
 use field::read;
+use refusal::Refusal;
 
 // The counts of an accepted chart, with the limits of every chart.
 pub struct Chart {
@@ -31,55 +29,6 @@ impl Chart {
     pub const BYTES: usize = 55308;
 }
 
-// Refusals 1 to 9 in the table's order, each with its line where that is not always line 0.
-pub enum Refusal {
-    Length,
-    Form(usize),
-    Limits,
-    Count,
-    Sequence(usize),
-    Endpoint(usize),
-    Disturbed(usize),
-    Order(usize),
-    NoMeant(usize),
-}
-
-impl Refusal {
-    // The number in document 01's table.
-    pub fn number(self) -> u32
-        ensures { λ r. ⌜ r ≡ refusalNumber self ⌝ }
-    {
-        match self {
-            Refusal::Length => 1,
-            Refusal::Form(_) => 2,
-            Refusal::Limits => 3,
-            Refusal::Count => 4,
-            Refusal::Sequence(_) => 5,
-            Refusal::Endpoint(_) => 6,
-            Refusal::Disturbed(_) => 7,
-            Refusal::Order(_) => 8,
-            Refusal::NoMeant(_) => 9,
-        }
-    }
-
-    // The line, counted from 0.
-    pub fn line(self) -> usize
-        ensures { λ r. ⌜ r ≡ refusalLine self ⌝ }
-    {
-        match self {
-            Refusal::Length => 0,
-            Refusal::Form(line) => line,
-            Refusal::Limits => 0,
-            Refusal::Count => 0,
-            Refusal::Sequence(line) => line,
-            Refusal::Endpoint(line) => line,
-            Refusal::Disturbed(line) => line,
-            Refusal::Order(line) => line,
-            Refusal::NoMeant(line) => line,
-        }
-    }
-}
-
 // What examining a text answers.
 pub enum Examination {
     Accepted(Chart),
@@ -90,31 +39,6 @@ pub enum Examination {
 enum Finding {
     Clean,
     Fault(Refusal),
-}
-
-// Examines a chart and, where it is accepted, decodes it into rows: owner (0 the controller, 1 the environment) and mark of
-// each position, cost (0 meant, 1 a disturbance), from and to of each move. What lies past them stays, and on a refusal all
-// of it does. The rows have room for every chart, so that a caller's local arrays of the limits' sizes serve.
-pub fn load(
-    text: &[u8],
-    owners: &mut [u8],
-    marks: &mut [u8],
-    costs: &mut [u8],
-    froms: &mut [u16],
-    tos: &mut [u16],
-) -> Examination
-    requires { ⌜ (512 ≤ length (now owners)) × (512 ≤ length (now marks)) ⌝ }
-    requires { ⌜ (4096 ≤ length (now costs)) × (4096 ≤ length (now froms)) × (4096 ≤ length (now tos)) ⌝ }
-    ensures { λ r. ⌜ LoadIs (now (text .entry)) r (now (owners .entry)) (now (owners .exit)) (now (marks .entry)) (now (marks .exit)) (now (costs .entry)) (now (costs .exit)) (now (froms .entry)) (now (froms .exit)) (now (tos .entry)) (now (tos .exit)) ⌝ }
-{
-    match examine(text) {
-        Examination::Refused(r) => Examination::Refused(r),
-        Examination::Accepted(chart) => {
-            decode_positions(text, chart, owners, marks);
-            decode_moves(text, chart, costs, froms, tos);
-            Examination::Accepted(chart)
-        }
-    }
 }
 
 // The counts of a chart, or the first refusal in document 01's order.
@@ -134,39 +58,6 @@ pub fn examine(text: &[u8]) -> Examination
     match header(text) {
         Examination::Refused(r) => Examination::Refused(r),
         Examination::Accepted(chart) => after_header(text, chart),
-    }
-}
-
-// The rows of an accepted text's positions, on the lines from 1 on.
-fn decode_positions(text: &[u8], chart: Chart, owners: &mut [u8], marks: &mut [u8])
-    requires { ⌜ examined (now text) ≡ Examination.Accepted chart ⌝ }
-    requires { ⌜ (chart .positions ≤ length (now owners)) × (chart .positions ≤ length (now marks)) ⌝ }
-    ensures { λ _. ⌜ PositionRows (now (text .entry)) (chart .positions) (now (owners .entry)) (now (owners .exit)) (now (marks .entry)) (now (marks .exit)) ⌝ }
-{
-    let n = chart.positions;
-    let mut v = 0;
-    while v < n {
-        owners[v] = owner(text[(v + 1) * Chart::LINE]);
-        marks[v] = number(mark_at(text, v + 1)) as u8;
-        v += 1;
-    }
-}
-
-// The rows of an accepted text's moves, on the lines after the positions.
-fn decode_moves(text: &[u8], chart: Chart, costs: &mut [u8], froms: &mut [u16], tos: &mut [u16])
-    requires { ⌜ examined (now text) ≡ Examination.Accepted chart ⌝ }
-    requires { ⌜ (chart .moves ≤ length (now costs)) × (chart .moves ≤ length (now froms)) × (chart .moves ≤ length (now tos)) ⌝ }
-    ensures { λ _. ⌜ MoveRows (now (text .entry)) (chart .positions + 1) (chart .moves) (now (costs .entry)) (now (costs .exit)) (now (froms .entry)) (now (froms .exit)) (now (tos .entry)) (now (tos .exit)) ⌝ }
-{
-    let first = chart.positions + 1;
-    let m = chart.moves;
-    let mut i = 0;
-    while i < m {
-        let line = first + i;
-        costs[i] = cost(text[line * Chart::LINE]);
-        froms[i] = from_at(text, line) as u16;
-        tos[i] = to_at(text, line) as u16;
-        i += 1;
     }
 }
 
@@ -396,15 +287,8 @@ fn above(from0: usize, cost0: u8, to0: usize, from: usize, cost: u8, to: usize) 
     to0 < to
 }
 
-// The controller is 0, the environment 1.
-fn owner(letter: u8) -> u8
-    ensures { λ r. ⌜ r ≡ ownerNumber (ownerOf letter) ⌝ }
-{
-    if letter == b'L' { 1 } else { 0 }
-}
-
 // A meant move costs 0, a disturbance 1.
-fn cost(letter: u8) -> u8
+pub fn cost(letter: u8) -> u8
     ensures { λ r. ⌜ r ≡ costOf letter ⌝ }
 {
     if letter == b'D' { 1 } else { 0 }
@@ -486,14 +370,14 @@ fn unflagged(flags: &[u8], n: usize) -> Finding
 }
 
 // The numbers of a line's two fields; 0 stands for a bad field. The bounds keep the line within the text.
-fn from_at(text: &[u8], line: usize) -> usize
+pub fn from_at(text: &[u8], line: usize) -> usize
     requires { ⌜ (line + 1) * 12 ≤ length (now text) ⌝ }
     ensures { λ r. ⌜ r ≡ fromAt (now (text .entry)) line ⌝ }
 {
     number(read(text, line * Chart::LINE + 1))
 }
 
-fn to_at(text: &[u8], line: usize) -> usize
+pub fn to_at(text: &[u8], line: usize) -> usize
     requires { ⌜ (line + 1) * 12 ≤ length (now text) ⌝ }
     ensures { λ r. ⌜ r ≡ toAt (now (text .entry)) line ⌝ }
 {
@@ -510,14 +394,14 @@ fn letter_at(text: &[u8], line: usize) -> u8
 }
 
 // The mark of a position line.
-fn mark_at(text: &[u8], line: usize) -> Field
+pub fn mark_at(text: &[u8], line: usize) -> Field
     requires { ⌜ (line + 1) * 12 ≤ length (now text) ⌝ }
     ensures { λ r. ⌜ r ≡ markAt (now (text .entry)) line ⌝ }
 {
     read(text, line * Chart::LINE + 6)
 }
 
-fn number(f: Field) -> usize
+pub fn number(f: Field) -> usize
     ensures { λ r. ⌜ r ≡ numberOf f ⌝ }
 {
     match f {

@@ -242,7 +242,7 @@ fn rows() {
     let mut costs = [9u8; 4096];
     let mut froms = [9u16; 4096];
     let mut tos = [9u16; 4096];
-    chart::load(
+    decode::load(
         b"H    1    1\n",
         &mut owners,
         &mut marks,
@@ -251,7 +251,7 @@ fn rows() {
         &mut tos,
     );
     bytes(b"  owners after a refusal", &owners, 6);
-    chart::load(
+    decode::load(
         &document(),
         &mut owners,
         &mut marks,

@@ -11,13 +11,13 @@ use Rattle.game.specs.Restrict.{restricted}
 use Rattle.game.specs.Table.{roundValue}
 use Rattle.chart.specs.Meaning.{arenaOf}
 use Rattle.chart.specs.Examined.{examined}
-use Rattle.chart.specs.Refusals.{refusalNumber, refusalLine}
+use Rattle.refusal.specs.Numbers.{refusalNumber, refusalLine}
 use Rattle.chart.specs.declared.Examination.{Examination}
 use Rattle.chart.specs.declared.Examination.the-variants.{Accepted as Taken, Refused as Turned}
-use Rattle.solver.specs.Summarize.{rowValue}
-use Rattle.value.specs.Weighing.{weighed}
-use Rattle.value.specs.declared.weighing.Weighed.{Weighed}
-use Rattle.value.specs.declared.weighing.Weighed.the-variants.{Done, Refused as NotWeighed, Short as NoWorths, Choice as Unlawful}
+use Rattle.choice.specs.Summarize.{rowValue}
+use Rattle.weighing.specs.Weighing.{weighed}
+use Rattle.weighing.specs.declared.Weighed.{Weighed}
+use Rattle.weighing.specs.declared.Weighed.the-variants.{Done, Refused as NotWeighed, Short as NoWorths, Choice as Unlawful}
 use Rattle.plate.specs.Read.{valueIn}
 use Rattle.plate.specs.Reading.{reading}
 use Rattle.plate.specs.declared.reading.Reading.{Reading}

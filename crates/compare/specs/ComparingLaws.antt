@@ -20,19 +20,19 @@ use Rattle.chart.specs.declared.Chart.{Chart}
 use Rattle.chart.specs.declared.Examination.{Examination}
 use Rattle.chart.specs.declared.Examination.the-variants.{Accepted as Taken}
 use Rattle.chart.specs.Accepted.{accepted-chartable, accepted-size}
-use Rattle.chart.specs.declared.Refusal.{Refusal}
-use Rattle.solver.specs.Summarize.{rowValue}
-use Rattle.solver.specs.declared.summary.Summary.{Summary}
-use Rattle.value.specs.Weighing.{weighed, WeighedIs}
-use Rattle.value.specs.declared.weighing.Weighed.{Weighed}
-use Rattle.value.specs.declared.weighing.Weighed.the-variants.{Done}
+use Rattle.refusal.specs.declared.Refusal.{Refusal}
+use Rattle.choice.specs.Summarize.{rowValue}
+use Rattle.choice.specs.declared.summary.Summary.{Summary}
+use Rattle.weighing.specs.Weighing.{weighed, WeighedIs}
+use Rattle.weighing.specs.declared.Weighed.{Weighed}
+use Rattle.weighing.specs.declared.Weighed.the-variants.{Done}
 use Rattle.plate.specs.Read.{valueIn, choiceIn}
 use Rattle.plate.specs.RangeLaws.{below-fits}
 use Rattle.plate.specs.RoundTrip.{read-in-range}
 use Rattle.plate.specs.Reading.{reading, ReadingIs}
 use Rattle.plate.specs.declared.reading.Reading.{Reading}
 use Rattle.plate.specs.declared.reading.Reading.the-variants.{Rows}
-use Rattle.audit.specs.Verdict.{RightPlate}
+use Rattle.verdict.specs.Verdict.{RightPlate}
 use Rattle.audit.specs.Checking.{checked}
 use Rattle.audit.specs.AnswersExact.{answer-exactly}
 use Rattle.audit.specs.Plates.{accepted-plate-is-right}

@@ -12,20 +12,20 @@ use Rattle.chart.specs.Meaning.{arenaOf}
 use Rattle.chart.specs.Examined.{examined}
 use Rattle.chart.specs.Accepted.{accepted-chartable, accepted-size}
 use Rattle.chart.specs.declared.Chart.{Chart}
-use Rattle.chart.specs.declared.Refusal.{Refusal}
+use Rattle.refusal.specs.declared.Refusal.{Refusal}
 use Rattle.chart.specs.declared.Examination.the-variants.{Accepted as Taken, Refused as Turned}
-use Rattle.solver.specs.Summarize.{rowValue}
-use Rattle.value.specs.Weighing.{legalRow, weighed, weighedBy}
-use Rattle.value.specs.declared.weighing.Weighed.the-variants.{Done, Choice as Unlawful}
+use Rattle.choice.specs.Summarize.{rowValue}
+use Rattle.weighing.specs.Weighing.{legalRow, weighed, weighedBy}
+use Rattle.weighing.specs.declared.Weighed.the-variants.{Done, Choice as Unlawful}
 use Rattle.plate.specs.Formed.{formOf}
 use Rattle.plate.specs.Read.{headerIn, valueIn, choiceIn, stepIn}
 use Rattle.plate.specs.Reading.{answerTo, readBy, reading}
 use Rattle.plate.specs.declared.Form.{Form as PlateForm}
 use Rattle.plate.specs.declared.Form.the-variants.{Good, Bad}
-use Rattle.audit.specs.Verdict.{verdictOf}
+use Rattle.verdict.specs.Verdict.{verdictOf}
 use Rattle.audit.specs.Checking.{answerOf, chartChecked, checked, plateChecked}
-use Rattle.audit.specs.declared.rows.Verdict.{Verdict}
-use Rattle.audit.specs.declared.rows.Verdict.the-variants.{Sound, Fault as FaultAt}
+use Rattle.verdict.specs.declared.rows.Verdict.{Verdict}
+use Rattle.verdict.specs.declared.rows.Verdict.the-variants.{Sound, Fault as FaultAt}
 use Rattle.compare.specs.Comparing.{valueNumber, worthNumber, firstDifference, afterChecking, afterWeighing, afterReading, afterExamining, compared}
 use Rattle.compare.specs.declared.Compared.the-variants.{Refused, Short, Form, Choice, Fault}
 

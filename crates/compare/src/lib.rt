@@ -8,16 +8,16 @@ ghost use Rattle.chart.specs.Meaning.{arenaOf};
 ghost use Rattle.compare.specs.Comparing.{afterReading, afterWeighing, entry, firstDifference};
 ghost use Rattle.compare.specs.Compared.{ComparedAs, ComparedIs, PlateRead};
 ghost use Rattle.plate.specs.Reading.{reading};
-ghost use Rattle.value.specs.Weighing.{weighed};
+ghost use Rattle.weighing.specs.Weighing.{weighed};
 use audit::Checked;
 use audit::check;
 use chart::Examination;
-use chart::Refusal;
 use chart::examine;
 use plate::reading::Reading;
 use plate::reading::read_plate;
-use value::weighing::Weighed;
-use value::weighing::weigh_chart;
+use refusal::Refusal;
+use weighing::Weighed;
+use weighing::weigh_chart;
 
 // What Comparing answers: that the rows agree; the first position where they differ, with value and worth; the chart's refusal;
 // 10: fewer choices than positions; 11 with the plate's line; 12: a choice that is not legal; 14 with position and condition.

@@ -13,10 +13,10 @@ use Rattle.game.specs.Arena.{Arena, controller, size, ownerAt}
 use Rattle.game.specs.Play.{Trail, Controller, last, positional}
 use Rattle.game.specs.Worth.{WorthIs, AtMost}
 use Rattle.chart.specs.Meaning.{arenaOf}
-use Rattle.solver.specs.Summarize.{rowValue}
-use Rattle.solver.specs.declared.summary.Summary.{Summary}
-use Rattle.value.specs.Weighing.{weighed, WeighedIs}
-use Rattle.value.specs.declared.weighing.Weighed.the-variants.{Done}
+use Rattle.choice.specs.Summarize.{rowValue}
+use Rattle.choice.specs.declared.summary.Summary.{Summary}
+use Rattle.weighing.specs.Weighing.{weighed, WeighedIs}
+use Rattle.weighing.specs.declared.Weighed.the-variants.{Done}
 use Rattle.plate.specs.Reading.{ReadingIs}
 use Rattle.plate.specs.declared.reading.Reading.the-variants.{Rows}
 use Rattle.demands.specs.Sanctioned.{Sanctioned}

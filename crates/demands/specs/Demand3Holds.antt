@@ -27,17 +27,17 @@ use Rattle.chart.specs.Examined.{examined}
 use Rattle.chart.specs.Accepted.{accepted-chartable, accepted-size}
 use Rattle.chart.specs.declared.Chart.{Chart}
 use Rattle.chart.specs.declared.Examination.the-variants.{Accepted as Taken}
-use Rattle.solver.specs.Summarize.{rowValue}
+use Rattle.choice.specs.Summarize.{rowValue}
 use Rattle.value.specs.ValuingLaws.{round-value-fits}
-use Rattle.value.specs.Weighing.{weighed, weighedBy, WeighedIs}
-use Rattle.value.specs.WeighingLaws.{legal-row-complete}
-use Rattle.value.specs.declared.weighing.Weighed.the-variants.{Done}
+use Rattle.weighing.specs.Weighing.{weighed, weighedBy, WeighedIs}
+use Rattle.weighing.specs.WeighingLaws.{legal-row-complete}
+use Rattle.weighing.specs.declared.Weighed.the-variants.{Done}
 use Rattle.plate.specs.Read.{valueIn, choiceIn, stepIn}
 use Rattle.plate.specs.Range.{Below}
 use Rattle.plate.specs.RangeLaws.{below-fits}
 use Rattle.plate.specs.RoundTrip.{read-in-range}
 use Rattle.plate.specs.ReadingTrip.{reading-took}
-use Rattle.audit.specs.Verdict.{RightPlate}
+use Rattle.verdict.specs.Verdict.{RightPlate}
 use Rattle.audit.specs.Answers.{AcceptedIs}
 use Rattle.audit.specs.AnswersExact.{answer-exactly}
 use Rattle.audit.specs.Plates.{accepted-plate-is-right}

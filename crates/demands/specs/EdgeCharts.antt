@@ -11,9 +11,9 @@ use Rattle.game.specs.Choice.{IsChoice}
 use Rattle.game.specs.Summary.{pairCount, highest, everCount}
 use Rattle.chart.specs.Meaning.{arenaOf, lineText}
 use Rattle.chart.specs.Examined.{examined}
-use Rattle.chart.specs.Refusals.{refusalNumber, refusalLine}
+use Rattle.refusal.specs.Numbers.{refusalNumber, refusalLine}
 use Rattle.chart.specs.declared.Chart.{Chart}
-use Rattle.chart.specs.declared.Refusal.{Refusal}
+use Rattle.refusal.specs.declared.Refusal.{Refusal}
 use Rattle.chart.specs.declared.Examination.the-variants.{Accepted, Refused}
 
 -- what is expected: a refusal, or the plate's columns and the numbers of its first line

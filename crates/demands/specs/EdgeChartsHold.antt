@@ -26,9 +26,9 @@ use Rattle.chart.specs.Text.{letterAt, firstAt, secondAt, endAt, markAt, number
 use Rattle.chart.specs.Meaning.{ownerOf, costOf, positionOn, moveOn, onLines, arenaOf, lineText}
 use Rattle.chart.specs.Examined.{numbered, formed, headerFormed, positionFormed, moveFormed, limitsOf, headerOf, judgedPosition, positionFinding, above, rises, ordered, judgedMove, moveFinding, lineFinding, orElse, firstOf, meantLine, meantIn, missingAt, unflaggedAt, answer, afterHeader, linesAfter, examined}
 use Rattle.chart.specs.Accepted.{accepted-chartable}
-use Rattle.chart.specs.Refusals.{refusalNumber, refusalLine}
+use Rattle.refusal.specs.Numbers.{refusalNumber, refusalLine}
 use Rattle.chart.specs.declared.Chart.{Chart}
-use Rattle.chart.specs.declared.Refusal.{Refusal}
+use Rattle.refusal.specs.declared.Refusal.{Refusal}
 use Rattle.chart.specs.declared.Examination.{Examination}
 use Rattle.chart.specs.declared.Examination.the-variants.{Accepted, Refused}
 use Rattle.demands.specs.EdgeCharts.{Expected, refusal, plate, Edge, entry, PairIs, PlateHolds, RefusalHolds, Holds, documentChart, documentPlate, edgeCharts}

@@ -22,7 +22,7 @@ use Rattle.writing.specs.Writing.{plateOf, summaryOf, written, writtenBy, Writt
 use Rattle.writing.specs.ResponseLaws.{plate-length}
 use Rattle.writing.specs.declared.Written.{Written}
 use Rattle.writing.specs.declared.Written.the-variants.{Length, Refused as Turned, Short}
-use Rattle.audit.specs.Verdict.{HeaderIs}
+use Rattle.verdict.specs.Verdict.{HeaderIs}
 use Rattle.audit.specs.Checking.{checked}
 use Rattle.audit.specs.Plates.{rounds-plate-is-accepted}
 use Rattle.audit.specs.declared.Checked.the-variants.{Accepted}

@@ -9,9 +9,9 @@ use lib.Dec.{leb}
 use Rattle.chart.specs.Examined.{examined}
 use Rattle.chart.specs.Accepted.{accepted-size, accepted-chartable}
 use Rattle.chart.specs.declared.Chart.{Chart}
-use Rattle.chart.specs.declared.Refusal.{Refusal}
+use Rattle.refusal.specs.declared.Refusal.{Refusal}
 use Rattle.chart.specs.declared.Examination.the-variants.{Accepted, Refused}
-use Rattle.solver.specs.declared.summary.Summary.{Summary}
+use Rattle.choice.specs.declared.summary.Summary.{Summary}
 use Rattle.plate.specs.Formed.{formOf}
 use Rattle.plate.specs.Read.{RowsRead}
 use Rattle.plate.specs.Reading.{answerTo, readBy, reading, ReadingIs}

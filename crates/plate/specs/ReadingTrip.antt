@@ -14,8 +14,8 @@ use Rattle.chart.specs.Accepted.{accepted-size, accepted-chartable}
 use Rattle.chart.specs.declared.Chart.{Chart}
 use Rattle.chart.specs.declared.Examination.{Examination}
 use Rattle.chart.specs.declared.Examination.the-variants.{Accepted, Refused}
-use Rattle.solver.specs.Summarize.{rowValue}
-use Rattle.solver.specs.declared.summary.Summary.{Summary}
+use Rattle.choice.specs.Summarize.{rowValue}
+use Rattle.choice.specs.declared.summary.Summary.{Summary}
 use Rattle.plate.specs.Text.{plateText}
 use Rattle.plate.specs.Form.{OfForm, BadAt}
 use Rattle.plate.specs.Formed.{formOf}

@@ -9,13 +9,13 @@ ghost use lib.ListN.{length, drop};
 ghost use lib.Seq.{sets};
 ghost use Rattle.field.specs.Text.{five};
 ghost use Rattle.game.specs.Value.{valueOf};
-ghost use Rattle.solver.specs.Summarize.{rowValue};
+ghost use Rattle.choice.specs.Summarize.{rowValue};
 ghost use Rattle.plate.specs.Text.{entryAt, withEntry, sameText, lineText, valueEntry, dashEntry, positionLine, positionLines, plateText};
 ghost use Rattle.plate.specs.Formed.{numberIs, numberBelow, dashOrBelow, everOrBelow, framed, headerGood, positionGood, firstBad, formOf};
 ghost use Rattle.plate.specs.Read.{entryNumber, RowsRead};
+use choice::summary::Summary;
 use field::Field;
 use solver::solve::NONE;
-use solver::summary::Summary;
 
 // The bytes of a line.
 pub const LINE: usize = 22;

@@ -4,9 +4,9 @@ use crate::Form;
 use crate::examine_plate;
 use crate::read_rows;
 use chart::Examination;
-use chart::Refusal;
 use chart::examine;
-use solver::summary::Summary;
+use choice::summary::Summary;
+use refusal::Refusal;
 
 // What Reading answers: the first line's numbers, the chart's refusal, 10: a row shorter than the count of positions, or 11 at a
 // line.

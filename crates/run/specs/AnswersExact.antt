@@ -18,12 +18,12 @@ use Rattle.plate.specs.Formed.{formOf}
 use Rattle.plate.specs.Read.{headerIn, valueIn, choiceIn, stepIn}
 use Rattle.plate.specs.declared.Form.{Form as PlateForm}
 use Rattle.plate.specs.declared.Form.the-variants.{Good, Bad}
-use Rattle.audit.specs.Verdict.{verdictOf}
+use Rattle.verdict.specs.Verdict.{verdictOf}
 use Rattle.audit.specs.Checking.{answerOf, checked}
 use Rattle.audit.specs.Answers.{AnswerIs as AuditIs}
 use Rattle.audit.specs.AnswersExact.{accepted-of, answer-exactly}
-use Rattle.audit.specs.declared.rows.Verdict.{Verdict}
-use Rattle.audit.specs.declared.rows.Verdict.the-variants.{Sound, Fault as RowFault}
+use Rattle.verdict.specs.declared.rows.Verdict.{Verdict}
+use Rattle.verdict.specs.declared.rows.Verdict.the-variants.{Sound, Fault as RowFault}
 use Rattle.audit.specs.declared.Checked.{Checked}
 use Rattle.audit.specs.declared.Checked.the-variants.{Accepted, Refused as Rejected, Form as BadForm, Fault as Faulty}
 use Rattle.run.specs.Moves.{moveKind}

@@ -14,7 +14,7 @@ use Rattle.game.specs.Arena.{Arena, Owner, controller, environment, ownerAt, mo
 use Rattle.game.specs.Play.{Allows, targetOf}
 use Rattle.game.specs.Table.{meantFrom, disturbanceFrom}
 use Rattle.game.specs.MoveTests.{some-meant, some-disturbance, and-left, and-right, and-both}
-use Rattle.chart.specs.Rows.{ownerNumber}
+use Rattle.decode.specs.Rows.{ownerNumber}
 use Rattle.solver.specs.RowLaws.{found, numberAt}
 use Rattle.solver.specs.Held.{Decoded}
 use Rattle.solver.specs.HeldLaws.{lines-of}

@@ -8,7 +8,7 @@ use Rattle.game.specs.Value.{numberOf}
 use Rattle.game.specs.Arena.{Arena, size}
 use Rattle.chart.specs.Meaning.{arenaOf}
 use Rattle.chart.specs.Examined.{examined}
-use Rattle.chart.specs.Refusals.{refusalNumber, refusalLine}
+use Rattle.refusal.specs.Numbers.{refusalNumber, refusalLine}
 use Rattle.chart.specs.declared.Examination.{Examination}
 use Rattle.chart.specs.declared.Examination.the-variants.{Accepted as Taken, Refused as Turned}
 use Rattle.solver.specs.Held.{Decoded}

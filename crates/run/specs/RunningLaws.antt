@@ -8,7 +8,7 @@ use Rattle.chart.specs.Meaning.{arenaOf}
 use Rattle.chart.specs.Examined.{examined}
 use Rattle.chart.specs.Accepted.{accepted-size}
 use Rattle.chart.specs.declared.Chart.{Chart}
-use Rattle.chart.specs.declared.Refusal.{Refusal}
+use Rattle.refusal.specs.declared.Refusal.{Refusal}
 use Rattle.chart.specs.declared.Examination.the-variants.{Accepted as Taken, Refused as Turned}
 use Rattle.solver.specs.Held.{Decoded}
 use Rattle.plate.specs.Exact.{form-exact}

@@ -11,14 +11,14 @@ use crate::moves::move_kind;
 use audit::Checked;
 use audit::check;
 use chart::Examination;
-use chart::Refusal;
 use chart::examine;
-use chart::load;
+use decode::load;
 use plate::Entry;
 use plate::Form;
 use plate::LINE;
 use plate::examine_plate;
 use plate::read_entry;
+use refusal::Refusal;
 use solver::solve::NONE;
 
 pub mod moves;

@@ -8,7 +8,7 @@ use lib.Dec.{eqb}
 use Rattle.game.specs.Value.{numberOf}
 use Rattle.game.specs.Arena.{Arena, WellFormed, size, positionAt, ownerAt, moveAt}
 use Rattle.game.specs.Table.{Table, table, tableAfter, tableBefore, placementAt, isPlaced, valueIn, stepIn}
-use Rattle.chart.specs.Rows.{RowIs, ownerNumber}
+use Rattle.decode.specs.Rows.{RowIs, ownerNumber}
 use Rattle.solver.specs.RowLaws.{Stays}
 use Rattle.solver.specs.Solve.{free}
 

@@ -15,8 +15,8 @@ use Rattle.game.specs.Summary.{someBelow, countBelow}
 use Rattle.game.specs.Arena.{Arena, Move, Owner, controller, environment, WellFormed, size, ownerAt, moveAt, noMove}
 use Rattle.game.specs.Table.{Table, Placement, unplaced, placed, placementAt, isPlaced, hasValue, valueIn, stepIn, place, someMove, meantFrom, disturbanceFrom, ready, readyAs, begins}
 use Rattle.game.specs.TableLaws.{Takes, place-at, place-length}
-use Rattle.chart.specs.Rows.{RowIs, ownerNumber}
-use Rattle.chart.specs.Loaded.{Filled}
+use Rattle.decode.specs.Rows.{RowIs, ownerNumber}
+use Rattle.decode.specs.Loaded.{Filled}
 use Rattle.chart.specs.Accepted.{at-member}
 use Rattle.solver.specs.RowLaws.{Marked, found, numberAt}
 use Rattle.solver.specs.Solve.{bit, free, taken, Placing, Within, decides, disturbs, readyFlag}

@@ -5,7 +5,3 @@ pub mod Held
 pub mod HeldLaws
 pub mod SettleLaws
 pub mod SolveLaws
-pub mod Choose
-pub mod ChooseLaws
-pub mod Summarize
-pub mod SummarizeLaws

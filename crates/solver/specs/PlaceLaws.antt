@@ -10,8 +10,8 @@ use lib.ListN.{length, getD}
 use lib.Dec.{eqb}
 use Rattle.game.specs.Summary.{countBelow}
 use Rattle.solver.specs.RowLaws.{filled-next}
-use Rattle.chart.specs.Loaded.{Filled}
-use Rattle.chart.specs.Filled.{filled-none}
+use Rattle.decode.specs.Loaded.{Filled}
+use Rattle.decode.specs.Filled.{filled-none}
 use Rattle.solver.specs.Solve.{bit, taken, Placing, PlacingAt}
 
 pub count-next : (p : ℕ → Bool) (i : ℕ) → countBelow p (i + 1) ≡ countBelow p i + bit (p i)

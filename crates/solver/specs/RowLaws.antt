@@ -14,9 +14,9 @@ use lib.Dec.{eqb}
 use borrow.Author.Count.{below-more}
 use borrow.Author.Tests.{eq-eqb, ne-eqb}
 use Rattle.game.specs.Summary.{someBelow}
-use Rattle.chart.specs.Rows.{RowIs}
-use Rattle.chart.specs.Loaded.{Filled}
-use Rattle.chart.specs.Filled.{filled-more}
+use Rattle.decode.specs.Rows.{RowIs}
+use Rattle.decode.specs.Loaded.{Filled}
+use Rattle.decode.specs.Filled.{filled-more}
 
 -- the number at j
 abbrev pub numberAt : List ℕ → ℕ → ℕ

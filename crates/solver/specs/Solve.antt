@@ -8,7 +8,7 @@ use mathlib.Core.List.{List}
 use lib.ListN.{length, getD}
 use lib.Dec.{eqb}
 use Rattle.game.specs.Summary.{countBelow}
-use Rattle.chart.specs.Loaded.{Filled}
+use Rattle.decode.specs.Loaded.{Filled}
 use Rattle.solver.specs.RowLaws.{setIf}
 
 abbrev pub bit : Bool → ℕ

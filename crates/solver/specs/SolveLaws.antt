@@ -13,8 +13,8 @@ use Rattle.game.specs.Table.{Table, Placement, unplaced, placed, placementAt, i
 use Rattle.game.specs.TableLaws.{Takes, place-none}
 use Rattle.game.specs.RoundTables.{before-length}
 use Rattle.game.specs.Stable.{values-end, values-stop-at-a-quiet-round}
-use Rattle.chart.specs.Rows.{RowIs}
-use Rattle.chart.specs.Loaded.{Filled}
+use Rattle.decode.specs.Rows.{RowIs}
+use Rattle.decode.specs.Loaded.{Filled}
 use Rattle.solver.specs.RowLaws.{Marked, Stays, numberAt}
 use Rattle.solver.specs.Solve.{bit, Placing, disturbs}
 use Rattle.solver.specs.Held.{Holds, Flags, Decoded, Settling, Solving, Solved}

@@ -3,7 +3,7 @@ ghost use mathlib.Core.Path.{_≡_};
 ghost use Prim.Native.Nat.{_<_, _≤_};
 ghost use mathlib.Core.Bool.{true, false};
 ghost use lib.ListN.{length, getD};
-ghost use Rattle.chart.specs.Loaded.{Filled};
+ghost use Rattle.decode.specs.Loaded.{Filled};
 ghost use Rattle.solver.specs.RowLaws.{Marked, numberAt, setIf};
 ghost use Rattle.solver.specs.Held.{NextValue, Settling, Solved, Solving};
 ghost use Rattle.solver.specs.Solve.{AtMove, Placing, PlacingAt, Within, firstFlag, bit, decides, disturbs, readyFlag};

@@ -1,3 +1,2 @@
-// The jobs Valuing and Weighing, over the solver.
+// The job Valuing, over the solver.
 pub mod valuing;
-pub mod weighing;

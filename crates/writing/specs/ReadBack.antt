@@ -20,12 +20,12 @@ use Rattle.game.specs.Summary.{highest}
 use Rattle.game.specs.SummaryLaws.{pairs-within-size, evers-within-size}
 use Rattle.chart.specs.Meaning.{arenaOf}
 use Rattle.chart.specs.Examined.{examined}
-use Rattle.chart.specs.Filled.{filled-same}
+use Rattle.decode.specs.Filled.{filled-same}
 use Rattle.chart.specs.Accepted.{accepted-size, accepted-chartable}
 use Rattle.chart.specs.declared.Chart.{Chart}
 use Rattle.chart.specs.declared.Examination.the-variants.{Accepted}
 use Rattle.value.specs.Valuing.{PlateRows}
-use Rattle.solver.specs.declared.summary.Summary.{Summary}
+use Rattle.choice.specs.declared.summary.Summary.{Summary}
 use Rattle.plate.specs.Form.{OfForm}
 use Rattle.plate.specs.Formed.{formOf}
 use Rattle.plate.specs.Exact.{form-exact}

@@ -10,7 +10,7 @@ use Rattle.field.specs.Laws.{number-text-length}
 use Rattle.game.specs.Arena.{Arena}
 use Rattle.chart.specs.Meaning.{arenaOf, lineText}
 use Rattle.chart.specs.Examined.{examined}
-use Rattle.chart.specs.Refusals.{refusalNumber, refusalLine}
+use Rattle.refusal.specs.Numbers.{refusalNumber, refusalLine}
 use Rattle.chart.specs.declared.Examination.{Examination}
 use Rattle.chart.specs.declared.Examination.the-variants.{Accepted, Refused}
 use Rattle.plate.specs.Written.{Written, written-none, written-sets}

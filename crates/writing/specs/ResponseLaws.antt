@@ -11,9 +11,9 @@ use Rattle.game.specs.Arena.{Arena, size}
 use Rattle.chart.specs.Meaning.{arenaOf, lineText}
 use Rattle.chart.specs.Examined.{examined}
 use Rattle.chart.specs.Accepted.{accepted-size, accepted-chartable}
-use Rattle.chart.specs.Refusals.{refusalNumber, refusalLine}
+use Rattle.refusal.specs.Numbers.{refusalNumber, refusalLine}
 use Rattle.chart.specs.declared.Chart.{Chart}
-use Rattle.chart.specs.declared.Refusal.{Refusal}
+use Rattle.refusal.specs.declared.Refusal.{Refusal}
 use Rattle.chart.specs.declared.Examination.{Examination}
 use Rattle.chart.specs.declared.Examination.the-variants.{Accepted, Refused}
 use Rattle.plate.specs.Text.{plateText}

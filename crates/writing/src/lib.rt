@@ -9,11 +9,11 @@ ghost use Rattle.value.specs.Valuing.{Decodable};
 ghost use Rattle.writing.specs.Response.{Responded};
 ghost use Rattle.writing.specs.Writing.{PlateWritten, WrittenIs};
 use chart::Examination;
-use chart::Refusal;
-use chart::load;
+use decode::load;
 use field::write;
 use plate::LINE;
 use plate::write_rows;
+use refusal::Refusal;
 use value::valuing::value_rows;
 
 // What Writing answers: the plate's length, the chart's refusal, or 10: a buffer that the plate does not fit.

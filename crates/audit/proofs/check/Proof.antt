@@ -9,7 +9,7 @@ use Rattle.audit.proofs.check.Tie as tie
 use Rattle.audit.proofs.check.Reads as reads
 use Rattle.audit.proofs.check.Lts as lts
 use Rattle.audit.proofs.check_plate.Reads as check-plate-reads
-use Rattle.chart.proofs.load.Reads as load-reads
+use Rattle.decode.proofs.load.Reads as load-reads
 
 slice-aggregate-load : tie.Need-slice-aggregate-load
 slice-aggregate-load c = search needs

@@ -7,7 +7,7 @@ use Rattle.audit.proofs.check_formed.Statement.{statement}
 use Rattle.audit.proofs.check_formed.Tie as tie
 use Rattle.audit.proofs.check_formed.Reads as reads
 use Rattle.audit.proofs.check_formed.Lts as lts
-use Rattle.audit.proofs.rows.check_rows.Reads as check-rows-reads
+use Rattle.verdict.proofs.rows.check_rows.Reads as check-rows-reads
 use Rattle.plate.proofs.read_rows.Reads as read-rows-reads
 
 slice-aggregate-read-rows : tie.Need-slice-aggregate-read-rows

@@ -11,7 +11,7 @@ use Rattle.compare.proofs.compare_values.Reads as reads
 use Rattle.compare.proofs.compare_values.Lts as lts
 use Rattle.audit.proofs.check.Reads as check-reads
 use Rattle.compare.proofs.first_difference.Reads as first-difference-reads
-use Rattle.value.proofs.weighing.weigh_chart.Reads as weigh-chart-reads
+use Rattle.weighing.proofs.weigh_chart.Reads as weigh-chart-reads
 
 slice-aggregate-weigh-chart : tie.Need-slice-aggregate-weigh-chart
 slice-aggregate-weigh-chart c = search needs

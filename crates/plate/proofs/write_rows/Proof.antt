@@ -1,6 +1,6 @@
 -- `plate::write_rows` meets its contract: the first line is written, and then the part behind it (`plate-written`).
 use Rattle.plate.specs.Line.{plate-written}
-use Rattle.solver.specs.Summarize.{rowValue}
+use Rattle.choice.specs.Summarize.{rowValue}
 use native.Mathlib.Omega.{arith}
 use borrow.Author.Needs.{needs}
 use Rattle.plate.proofs.write_rows.Statement.{statement}

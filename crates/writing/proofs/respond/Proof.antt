@@ -9,8 +9,8 @@ use Rattle.writing.proofs.respond.Statement.{statement}
 use Rattle.writing.proofs.respond.Tie as tie
 use Rattle.writing.proofs.respond.Reads as reads
 use Rattle.writing.proofs.respond.Lts as lts
-use Rattle.chart.proofs.Refusal.line.Reads as line-reads
-use Rattle.chart.proofs.Refusal.number.Reads as number-reads
+use Rattle.refusal.proofs.Refusal.line.Reads as line-reads
+use Rattle.refusal.proofs.Refusal.number.Reads as number-reads
 use Rattle.writing.proofs.write_plate.Reads as write-plate-reads
 use Rattle.writing.proofs.write_refusal.Reads as write-refusal-reads
 

@@ -14,7 +14,7 @@ use Rattle.writing.proofs.write_plate.Statement.{statement}
 use Rattle.writing.proofs.write_plate.Tie as tie
 use Rattle.writing.proofs.write_plate.Reads as reads
 use Rattle.writing.proofs.write_plate.Lts as lts
-use Rattle.chart.proofs.load.Reads as load-reads
+use Rattle.decode.proofs.load.Reads as load-reads
 use Rattle.writing.proofs.write_valued.Reads as write-valued-reads
 
 slice-aggregate-load : tie.Need-slice-aggregate-load

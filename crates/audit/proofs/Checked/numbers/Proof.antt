@@ -8,8 +8,8 @@ use Rattle.audit.proofs.Checked.numbers.Tie as tie
 use Rattle.audit.proofs.Checked.numbers.Reads as reads
 use Rattle.audit.proofs.Checked.numbers.Lts as lts
 use Rattle.audit.proofs.numbers_of.Reads as numbers-of-reads
-use Rattle.chart.proofs.Refusal.line.Reads as line-reads
-use Rattle.chart.proofs.Refusal.number.Reads as number-reads
+use Rattle.refusal.proofs.Refusal.line.Reads as line-reads
+use Rattle.refusal.proofs.Refusal.number.Reads as number-reads
 
 enum-told : tie.Need-enum-told
 enum-told c = search needs

@@ -8,7 +8,7 @@ use Rattle.run.proofs.Run.report.Statement.{statement}
 use Rattle.run.proofs.Run.report.Tie as tie
 use Rattle.run.proofs.Run.report.Reads as reads
 use Rattle.run.proofs.Run.report.Lts as lts
-use Rattle.chart.proofs.load.Reads as load-reads
+use Rattle.decode.proofs.load.Reads as load-reads
 use Rattle.run.proofs.Run.unmoved.Reads as unmoved-reads
 use Rattle.run.proofs.report_rows.Reads as report-rows-reads
 

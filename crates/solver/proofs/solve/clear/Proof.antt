@@ -7,8 +7,8 @@ use mathlib.Core.Path.{_≡_, refl}
 use mathlib.Core.Bool.{true}
 use lib.ListN.{length, getD, set, length-set}
 use Rattle.solver.specs.RowLaws.{filled-next}
-use Rattle.chart.specs.Loaded.{Filled}
-use Rattle.chart.specs.Filled.{filled-none}
+use Rattle.decode.specs.Loaded.{Filled}
+use Rattle.decode.specs.Filled.{filled-none}
 use Rattle.solver.proofs.solve.clear.Statement.{statement}
 use Rattle.solver.proofs.solve.clear.Tie as tie
 use Rattle.solver.proofs.solve.clear.Reads as reads

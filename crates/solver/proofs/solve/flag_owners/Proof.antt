@@ -7,8 +7,8 @@ use mathlib.Core.Path.{_≡_, refl, sym, _∙_}
 use lib.ListN.{length, getD, set, length-set}
 use mathlib.Core.Bool.{true, false}
 use Rattle.solver.specs.RowLaws.{filled-next}
-use Rattle.chart.specs.Loaded.{Filled}
-use Rattle.chart.specs.Filled.{filled-none}
+use Rattle.decode.specs.Loaded.{Filled}
+use Rattle.decode.specs.Filled.{filled-none}
 use Rattle.solver.specs.Solve.{readyFlag, ready-flag-first}
 use Rattle.solver.proofs.solve.flag_owners.Statement.{statement}
 use Rattle.solver.proofs.solve.flag_owners.Tie as tie

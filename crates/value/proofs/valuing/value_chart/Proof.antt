@@ -12,7 +12,7 @@ use Rattle.value.proofs.valuing.value_chart.Statement.{statement}
 use Rattle.value.proofs.valuing.value_chart.Tie as tie
 use Rattle.value.proofs.valuing.value_chart.Reads as reads
 use Rattle.value.proofs.valuing.value_chart.Lts as lts
-use Rattle.chart.proofs.load.Reads as load-reads
+use Rattle.decode.proofs.load.Reads as load-reads
 use Rattle.value.proofs.valuing.value_rows.Reads as value-rows-reads
 
 slice-aggregate-load : tie.Need-slice-aggregate-load

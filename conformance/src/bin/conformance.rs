@@ -1,0 +1,48 @@
+//! The test: the library, through its C interface, against the model. It ends with status 1 at the first mismatch, and
+//! also if a refusal or a condition was hardly ever seen. A number as the argument divides the counts of inputs, for a
+//! quick look.
+
+use conformance::parts::{controllers, damaged, drawn, examples, small, Share};
+use conformance::tally::Tally;
+use std::process::ExitCode;
+use std::thread;
+
+const THREADS: usize = 2;
+
+fn main() -> ExitCode {
+    let divisor = std::env::args().nth(1).map_or(1, |word| word.parse().expect("a number to divide the counts by"));
+    let mut total = Tally::default();
+    println!("{:<58}{:>10}{:>10}", "part", "inputs", "calls");
+    note(&mut total, "0  examples, edges and refusals of document 01", &examples::part());
+    note(&mut total, "1  all charts of one to three positions", &shared(small::part, divisor));
+    note(&mut total, "2  all controllers of small charts", &shared(controllers::part, divisor));
+    note(&mut total, "3  pseudo-random charts, all jobs, with runs", &shared(drawn::part, divisor));
+    note(&mut total, "4  damaged charts, plates, choices, runs and buffers", &shared(damaged::part, divisor));
+    println!();
+    total.print();
+    let missing = total.missing(divisor);
+    if missing.is_empty() {
+        println!("every answer and all that was lent is as the model has it");
+        return ExitCode::SUCCESS;
+    }
+    missing.iter().for_each(|line| println!("{line}"));
+    ExitCode::FAILURE
+}
+
+fn note(total: &mut Tally, name: &str, tally: &Tally) {
+    println!("{name:<58}{:>10}{:>10}", tally.inputs, tally.calls);
+    total.add(tally);
+}
+
+/// A part in shares, one for each thread. A thread that fails fails the test.
+fn shared(part: fn(Share) -> Tally, divisor: usize) -> Tally {
+    let mut sum = Tally::default();
+    thread::scope(|scope| {
+        let share = |first| Share { first, shares: THREADS, divisor };
+        let threads: Vec<_> = (0..THREADS).map(|first| scope.spawn(move || part(share(first)))).collect();
+        for thread in threads {
+            sum.add(&thread.join().expect("a share of the test ended early"));
+        }
+    });
+    sum
+}

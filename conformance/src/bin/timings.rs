@@ -1,0 +1,193 @@
+//! The timings: the library, through its C interface, beside the fast solver in Rust, on the same inputs in one run.
+
+use conformance::capi::{self, Run};
+use conformance::chart::{Chart, Owner, Position, MOVES, POSITIONS};
+use conformance::measure::{stack, times};
+use conformance::model::Subject;
+use conformance::random::Random;
+use conformance::shapes::{blocks, console_chain, drawn, filled, lane_chain, Reach, Shape};
+use conformance::solver;
+use std::hint::black_box;
+
+const JOBS: [&str; 4] = ["value", "write", "check", "weigh"];
+
+/// What the jobs are given: a chart with its plate, and the plate's choices.
+struct Input {
+    chart: Vec<u8>,
+    plate: Vec<u8>,
+    choices: Vec<u16>,
+}
+
+impl Input {
+    fn new(chart: &Chart) -> Input {
+        let text = chart.text();
+        let subject = Subject::new(&text);
+        let (_, plate) = subject.write(22 * (chart.len() + 1));
+        let choices = subject.valuation(chart).choices.clone();
+        Input { plate, choices, chart: text }
+    }
+}
+
+/// What is lent for answers, used again at each call.
+struct Lent {
+    rows: [[u16; POSITIONS]; 3],
+    plate: [u8; 22 * (POSITIONS + 1)],
+}
+
+impl Lent {
+    fn new() -> Lent {
+        Lent { rows: [[0; POSITIONS]; 3], plate: [0; 22 * (POSITIONS + 1)] }
+    }
+}
+
+fn library(job: usize, input: &Input, lent: &mut Lent) {
+    let input = black_box(input);
+    let [values, choices, steps] = &mut lent.rows;
+    match job {
+        0 => assert_eq!(capi::value(&input.chart, values, choices, steps).refusal.number, 0),
+        1 => assert_eq!(capi::write(&input.chart, &mut lent.plate).length, input.plate.len()),
+        2 => assert_eq!(capi::check(&input.chart, &input.plate).number, 0),
+        _ => assert_eq!(capi::weigh(&input.chart, &input.choices, values).number, 0),
+    }
+    black_box(lent);
+}
+
+fn rust(job: usize, input: &Input, lent: &mut Lent) {
+    let input = black_box(input);
+    let [values, choices, steps] = &mut lent.rows;
+    match job {
+        0 => assert_eq!(solver::value(&input.chart, values, choices, steps).refusal.number, 0),
+        1 => assert_eq!(solver::write(&input.chart, &mut lent.plate).length, input.plate.len()),
+        2 => assert_eq!(solver::check(&input.chart, &input.plate).number, 0),
+        _ => assert_eq!(solver::weigh(&input.chart, &input.choices, values).number, 0),
+    }
+    black_box(lent);
+}
+
+/// Both programs on one input, after a look that they answer alike.
+fn both(job: usize, input: &Input) -> (f64, f64) {
+    let (mut one, mut other) = (Lent::new(), Lent::new());
+    library(job, input, &mut one);
+    rust(job, input, &mut other);
+    assert!(one.rows == other.rows && one.plate == other.plate, "the two answer alike");
+    times(|| library(job, input, &mut one), || rust(job, input, &mut other))
+}
+
+fn shaped(n: usize, moves: usize, shape: Shape) -> Chart {
+    filled(drawn(&mut Random::new(7), n, shape), moves, |_, _, _| true)
+}
+
+/// Each position with so many meant moves and, at O, so many disturbances, to different targets drawn at random.
+fn dense(n: usize, meant: usize, disturbances: usize) -> Chart {
+    let mut random = Random::new(11);
+    let mut targets = |count: usize| {
+        let mut list: Vec<u16> = (0..n as u16).collect();
+        while list.len() > count {
+            list.swap_remove(random.below(list.len()));
+        }
+        list.sort_unstable();
+        list
+    };
+    let owner = |v: usize| if disturbances == 0 && v % 2 == 0 { Owner::Lane } else { Owner::Console };
+    let mut position = |v: usize| Position {
+        owner: owner(v),
+        safe: v > 1,
+        meant: targets(meant),
+        disturbances: targets(disturbances),
+    };
+    Chart { positions: (0..n).map(&mut position).collect() }
+}
+
+#[rustfmt::skip]
+fn kinds() -> Vec<(&'static str, Chart)> {
+    let any = Reach::Anywhere;
+    let shape = |lane, hazards, meant, disturbances, reach| Shape { lane, hazards, meant, disturbances, reach };
+    let full = |shape| shaped(POSITIONS, MOVES, shape);
+    vec![
+        ("random, even mix", full(shape(30, 5, 8, 8, any))),
+        ("random, many unsafe", full(shape(50, 40, 12, 4, any))),
+        ("random, many disturbances", full(shape(5, 1, 2, 14, any))),
+        ("random, near targets", full(shape(10, 2, 8, 6, Reach::Near(6)))),
+        ("chain of L, 512 rounds", lane_chain(POSITIONS, MOVES)),
+        ("chain of O, 512 rounds", console_chain(POSITIONS, MOVES)),
+        ("512 values", blocks(POSITIONS, MOVES, 1)),
+        ("32 values, 16 steps each", blocks(POSITIONS, MOVES, 16)),
+        ("64 positions, 64 meant each", dense(64, 64, 0)),
+        ("64 positions, 32 and 32 each", dense(64, 32, 32)),
+    ]
+}
+
+fn full_charts() {
+    println!("Charts with 4,096 moves, 512 positions where not said otherwise. Microseconds a call.\n");
+    println!("{:<32}{:<8}{:>10}{:>10}{:>8}", "chart", "job", "library", "Rust", "ratio");
+    for (name, chart) in kinds() {
+        let input = Input::new(&chart);
+        assert_eq!(chart.moves(), MOVES, "{name}");
+        for (job, title) in JOBS.iter().enumerate() {
+            let (library, rust) = both(job, &input);
+            println!("{name:<32}{title:<8}{library:>10.1}{rust:>10.1}{:>8.2}", library / rust);
+        }
+    }
+}
+
+fn growth() {
+    println!("\nGrowth with the chart: n positions and 8 n moves. Microseconds a call, library / Rust.\n");
+    print!("{:<10}{:>6}", "chart", "n");
+    JOBS.iter().for_each(|job| print!("{job:>18}"));
+    println!();
+    for name in ["random", "chain"] {
+        for n in [32, 64, 128, 256, 512] {
+            let shape = Shape { lane: 30, hazards: 5, meant: 8, disturbances: 8, reach: Reach::Anywhere };
+            let chart = if name == "chain" { lane_chain(n, 8 * n) } else { shaped(n, 8 * n, shape) };
+            let input = Input::new(&chart);
+            print!("{name:<10}{n:>6}");
+            for job in 0..JOBS.len() {
+                let (library, rust) = both(job, &input);
+                print!("{:>18}", format!("{library:.1} / {rust:.1}"));
+            }
+            println!();
+        }
+    }
+}
+
+fn memory() {
+    println!("\nStack of a call on a full chart, KiB. Neither program uses the heap.\n");
+    println!("{:<8}{:>10}{:>10}", "job", "library", "Rust");
+    let (_, chart) = kinds().swap_remove(0);
+    let input = &Input::new(&chart);
+    let kib = |bytes: usize| format!("{:.1}", bytes as f64 / 1024.0);
+    for (job, title) in JOBS.iter().enumerate() {
+        let (mut one, mut other) = (Lent::new(), Lent::new());
+        let library = stack(|| library(job, input, &mut one));
+        let rust = stack(|| rust(job, input, &mut other));
+        println!("{title:<8}{:>10}{:>10}", kib(library), kib(rust));
+    }
+    for (title, bytes) in other_jobs(input) {
+        println!("{title:<8}{:>10}{:>10}", kib(bytes), "");
+    }
+}
+
+/// The stack of the library's other jobs.
+fn other_jobs(input: &Input) -> [(&'static str, usize); 4] {
+    let mut lent = Lent::new();
+    let [values, choices, steps] = &mut lent.rows;
+    let (chart, plate) = (&input.chart, &input.plate);
+    let taken = |number| assert_eq!(number, 0, "nothing was refused");
+    let run = Run { position: 0, seen: 0, initial: 0 };
+    let to = usize::from(input.choices[0]);
+    [
+        ("read", stack(|| taken(capi::read(chart, plate, values, choices, steps).refusal.number))),
+        ("compare", stack(|| taken(capi::compare(chart, plate, &input.choices).refusal.number))),
+        ("start", stack(|| taken(capi::start(chart, plate, 0).refusal.number))),
+        ("report", stack(|| taken(capi::report(run, chart, plate, to).refusal.number))),
+    ]
+}
+
+fn main() {
+    println!("The library through its C interface beside the fast solver in Rust, both built for release.");
+    println!("Each call is a whole job from the chart's text. Medians of batches that take turns.");
+    println!("What is lent is not cleared between calls: answers are written over the last ones.\n");
+    full_charts();
+    growth();
+    memory();
+}

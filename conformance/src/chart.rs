@@ -1,0 +1,117 @@
+//! A chart as data, its text, and all charts of one to three positions.
+
+/// The most positions and the most moves of a chart.
+pub const POSITIONS: usize = 512;
+pub const MOVES: usize = 4096;
+
+#[derive(Clone, Copy, Debug, PartialEq, Eq)]
+pub enum Owner {
+    Console,
+    Lane,
+}
+
+/// A position with its moves, both lists rising.
+#[derive(Clone, Debug, PartialEq, Eq)]
+pub struct Position {
+    pub owner: Owner,
+    pub safe: bool,
+    pub meant: Vec<u16>,
+    pub disturbances: Vec<u16>,
+}
+
+#[derive(Clone, Debug, PartialEq, Eq)]
+pub struct Chart {
+    pub positions: Vec<Position>,
+}
+
+impl Chart {
+    pub fn len(&self) -> usize {
+        self.positions.len()
+    }
+
+    pub fn is_empty(&self) -> bool {
+        self.positions.is_empty()
+    }
+
+    pub fn moves(&self) -> usize {
+        self.positions.iter().map(|p| p.meant.len() + p.disturbances.len()).sum()
+    }
+
+    pub fn text(&self) -> Vec<u8> {
+        let mut text = Vec::with_capacity(12 * (1 + self.len() + self.moves()));
+        push_line(&mut text, b'H', self.len(), self.moves());
+        for (number, position) in self.positions.iter().enumerate() {
+            let letter = if position.owner == Owner::Console { b'O' } else { b'L' };
+            push_line(&mut text, letter, number, usize::from(!position.safe));
+        }
+        for (from, position) in self.positions.iter().enumerate() {
+            for &to in &position.meant {
+                push_line(&mut text, b'M', from, usize::from(to));
+            }
+            for &to in &position.disturbances {
+                push_line(&mut text, b'D', from, usize::from(to));
+            }
+        }
+        text
+    }
+}
+
+/// A line of a chart's text.
+pub fn push_line(text: &mut Vec<u8>, letter: u8, first: usize, second: usize) {
+    text.push(letter);
+    push_number(text, first);
+    push_number(text, second);
+    text.push(b'\n');
+}
+
+/// A number of up to five digits as a field: right-justified after spaces.
+pub fn push_number(text: &mut Vec<u8>, number: usize) {
+    let mut field = [b' '; 5];
+    let mut rest = number;
+    for place in (0..5).rev() {
+        field[place] = b'0' + (rest % 10) as u8;
+        rest /= 10;
+        if rest == 0 {
+            break;
+        }
+    }
+    text.extend_from_slice(&field);
+}
+
+/// How many positions there can be in a chart of `n`: the mark, the meant targets (at least one), and either the lane's
+/// or the console's with any disturbances.
+fn kinds(n: usize) -> usize {
+    2 * ((1 << n) - 1) * (1 + (1 << n))
+}
+
+/// How many charts of `n` positions there are.
+pub fn small_charts(n: usize) -> usize {
+    kinds(n).pow(n as u32)
+}
+
+/// The chart of `n` positions with a number below `small_charts(n)`.
+pub fn small_chart(n: usize, number: usize) -> Chart {
+    let mut rest = number;
+    let mut positions = Vec::with_capacity(n);
+    for _ in 0..n {
+        positions.push(small_position(n, rest % kinds(n)));
+        rest /= kinds(n);
+    }
+    Chart { positions }
+}
+
+fn small_position(n: usize, kind: usize) -> Position {
+    let (safe, rest) = (kind % 2 == 0, kind / 2);
+    let (meant, rest) = (1 + rest % ((1 << n) - 1), rest / ((1 << n) - 1));
+    Position {
+        owner: if rest == 0 { Owner::Lane } else { Owner::Console },
+        safe,
+        meant: members(meant),
+        disturbances: if rest == 0 { Vec::new() } else { members(rest - 1) },
+    }
+}
+
+/// The places of the ones in a number.
+fn members(set: usize) -> Vec<u16> {
+    (0..16).filter(|place| set >> place & 1 == 1).collect()
+}

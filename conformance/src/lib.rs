@@ -1,0 +1,13 @@
+//! A second implementation of lane charts and plates, written from document 01 alone, and what is needed to set the
+//! library's C interface against it.
+
+pub mod capi;
+pub mod chart;
+pub mod measure;
+pub mod model;
+pub mod parts;
+pub mod random;
+pub mod shapes;
+pub mod solver;
+pub mod tally;
+pub mod trial;

@@ -1,0 +1,97 @@
+//! From a chart's text to the chart, or to refusal 1 to 9 with its line.
+
+use super::refused_at;
+use crate::capi::Refusal;
+use crate::chart::{Chart, Owner, Position, MOVES, POSITIONS};
+
+const LINE: usize = 12;
+const LONGEST: usize = LINE * (1 + POSITIONS + MOVES);
+
+pub fn parse(text: &[u8]) -> Result<Chart, Refusal> {
+    if text.is_empty() || text.len() > LONGEST || text.len() % LINE != 0 {
+        return Err(refused_at(1, 0));
+    }
+    let n = counted(text)?;
+    let mut chart = Chart { positions: Vec::with_capacity(n) };
+    for line in 1..=n {
+        chart.positions.push(position(text, line)?);
+    }
+    let mut before = None;
+    for line in n + 1..text.len() / LINE {
+        before = Some(add_move(&mut chart, text, line, before)?);
+    }
+    match chart.positions.iter().position(|p| p.meant.is_empty()) {
+        Some(lowest) => Err(refused_at(9, 1 + lowest)),
+        None => Ok(chart),
+    }
+}
+
+/// The first line: the count of positions, after refusals 2, 3 and 4.
+fn counted(text: &[u8]) -> Result<usize, Refusal> {
+    let (_, n, m) = fields(text, 0, b"H")?;
+    if !(1..=POSITIONS).contains(&n) || !(1..=MOVES).contains(&m) {
+        return Err(refused_at(3, 0));
+    }
+    if text.len() / LINE != 1 + n + m {
+        return Err(refused_at(4, 0));
+    }
+    Ok(n)
+}
+
+/// A position line, whose moves come later.
+fn position(text: &[u8], line: usize) -> Result<Position, Refusal> {
+    let (letter, number, mark) = fields(text, line, b"OL")?;
+    if number != line - 1 || mark > 1 {
+        return Err(refused_at(5, line));
+    }
+    Ok(Position {
+        owner: if letter == b'O' { Owner::Console } else { Owner::Lane },
+        safe: mark == 0,
+        meant: Vec::new(),
+        disturbances: Vec::new(),
+    })
+}
+
+/// What the move lines rise by: from, then M before D, then to.
+type Rank = (usize, bool, usize);
+
+fn add_move(chart: &mut Chart, text: &[u8], line: usize, before: Option<Rank>) -> Result<Rank, Refusal> {
+    let (letter, from, to) = fields(text, line, b"MD")?;
+    let disturbance = letter == b'D';
+    if from >= chart.len() || to >= chart.len() {
+        return Err(refused_at(6, line));
+    }
+    let position = &mut chart.positions[from];
+    if disturbance && position.owner == Owner::Lane {
+        return Err(refused_at(7, line));
+    }
+    let rank = (from, disturbance, to);
+    if before.is_some_and(|before| rank <= before) {
+        return Err(refused_at(8, line));
+    }
+    let list = if disturbance { &mut position.disturbances } else { &mut position.meant };
+    list.push(to as u16);
+    Ok(rank)
+}
+
+/// The letter and the two numbers of a line, or refusal 2.
+fn fields(text: &[u8], line: usize, letters: &[u8]) -> Result<(u8, usize, usize), Refusal> {
+    let bytes = &text[LINE * line..LINE * (line + 1)];
+    let read = || {
+        let first = number(&bytes[1..6])?;
+        let second = number(&bytes[6..11])?;
+        (letters.contains(&bytes[0]) && bytes[11] == b'\n').then_some((bytes[0], first, second))
+    };
+    read().ok_or(refused_at(2, line))
+}
+
+/// A field's number: digits after spaces, with no leading zero save "0" itself.
+pub fn number(field: &[u8]) -> Option<usize> {
+    let spaces = field.iter().take_while(|&&byte| byte == b' ').count();
+    let digits = &field[spaces..];
+    let leading_zero = digits.len() > 1 && digits[0] == b'0';
+    if digits.is_empty() || leading_zero || !digits.iter().all(u8::is_ascii_digit) {
+        return None;
+    }
+    Some(digits.iter().fold(0, |sum, &digit| 10 * sum + usize::from(digit - b'0')))
+}

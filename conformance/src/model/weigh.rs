@@ -1,0 +1,46 @@
+//! Weighing: the worths of a positional controller, as least costs of unsafe plays.
+
+use super::refused;
+use crate::capi::{Refusal, NONE};
+use crate::chart::{Chart, Owner, Position};
+
+/// Refusal 12: a meant target at O, 65,535 at L. Numbers past the last position are nobody's choices.
+pub fn legal(chart: &Chart, choices: &[u16]) -> Result<(), Refusal> {
+    let fits = |position: &Position, choice: u16| match position.owner {
+        Owner::Console => position.meant.contains(&choice),
+        Owner::Lane => choice == NONE,
+    };
+    if chart.positions.iter().zip(choices).all(|(position, &choice)| fits(position, choice)) {
+        return Ok(());
+    }
+    Err(refused(12))
+}
+
+/// The least count of disturbances on an unsafe play from each position. Costs are lowered as long as some move lowers
+/// one: then each is the least.
+pub fn worths(chart: &Chart, choices: &[u16]) -> Vec<u16> {
+    let mut worths: Vec<u16> = chart.positions.iter().map(|p| if p.safe { NONE } else { 0 }).collect();
+    let mut lowered = true;
+    while lowered {
+        lowered = false;
+        for v in 0..chart.len() {
+            let least = through(&chart.positions[v], choices[v], &worths);
+            if least < worths[v] {
+                worths[v] = least;
+                lowered = true;
+            }
+        }
+    }
+    worths
+}
+
+/// The least cost of an unsafe play that begins with a move from this position.
+fn through(position: &Position, choice: u16, worths: &[u16]) -> u16 {
+    let worth = |to: u16| worths[usize::from(to)];
+    let least = |list: &[u16]| list.iter().map(|&to| worth(to)).min().unwrap_or(NONE);
+    match position.owner {
+        Owner::Lane => least(&position.meant),
+        // One more than "ever" stays "ever".
+        Owner::Console => worth(choice).min(least(&position.disturbances).saturating_add(1)),
+    }
+}

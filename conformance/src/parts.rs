@@ -1,0 +1,36 @@
+//! The parts of the test. Each takes every `shares`-th of its inputs, so that threads can divide them.
+
+pub mod controllers;
+mod damage;
+pub mod damaged;
+pub mod drawn;
+pub mod examples;
+pub mod small;
+
+use crate::capi::NONE;
+use crate::chart::{Chart, Owner, Position};
+use crate::random::Random;
+
+/// Which of a part's inputs a thread takes, and a number by which the counts of inputs are divided.
+#[derive(Clone, Copy)]
+pub struct Share {
+    pub first: usize,
+    pub shares: usize,
+    pub divisor: usize,
+}
+
+impl Share {
+    /// The inputs of this share, of `count` in all.
+    fn of(self, count: usize) -> impl Iterator<Item = usize> {
+        (self.first..count / self.divisor).step_by(self.shares)
+    }
+}
+
+/// A choice for each position at random: a meant target at O, none at L.
+fn random_choices(random: &mut Random, chart: &Chart) -> Vec<u16> {
+    let choose = |position: &Position| match position.owner {
+        Owner::Console => *random.pick(&position.meant),
+        Owner::Lane => NONE,
+    };
+    chart.positions.iter().map(choose).collect()
+}

@@ -1,0 +1,111 @@
+//! Part 3: pseudo-random charts up to the limits, with every job on each and a run of reports.
+
+use super::{random_choices, Share};
+use crate::capi::Run;
+use crate::chart::{Chart, Owner, MOVES, POSITIONS};
+use crate::model::Subject;
+use crate::random::Random;
+use crate::shapes::{blocks, console_chain, drawn, filled, lane_chain, renumbered, stirred, Shape, SHAPES};
+use crate::tally::Tally;
+use crate::trial::Trial;
+
+const CHARTS: usize = 100_000;
+
+pub fn part(share: Share) -> Tally {
+    let mut trial = Trial::default();
+    for input in share.of(CHARTS) {
+        let mut random = Random::new(0x3000_0000 + input as u64);
+        let chart = chart(&mut random, input);
+        one(&mut trial, &mut random, &chart);
+    }
+    trial.tally
+}
+
+/// Mostly charts of 2 to 40 positions. Of a thousand, ten are larger and two have all the moves there can be.
+fn chart(random: &mut Random, input: usize) -> Chart {
+    let shape = *random.pick(&SHAPES);
+    let chart = match input % 1000 {
+        0 => long_chart(random),
+        1 => filled(drawn(random, POSITIONS, shape), MOVES, |_, _, _| true),
+        2..=5 => sized(random, 129, POSITIONS, shape),
+        6..=11 => sized(random, 41, 128, shape),
+        12..=150 => high_chart(random),
+        _ => sized(random, 2, 40, shape),
+    };
+    if random.chance(50) {
+        return renumbered(random, &chart);
+    }
+    chart
+}
+
+fn sized(random: &mut Random, least: usize, most: usize, shape: Shape) -> Chart {
+    let n = random.between(least, most);
+    drawn(random, n, shape)
+}
+
+/// Up to 40 positions and about as many rounds or values, with some moves that lead elsewhere.
+fn high_chart(random: &mut Random) -> Chart {
+    let (n, height) = (random.between(2, 40), random.between(1, 4));
+    let moves = n * random.between(1, 3);
+    let times = random.below(6);
+    stirred(random, blocks(n, moves, height), times)
+}
+
+/// As many rounds as there can be.
+fn long_chart(random: &mut Random) -> Chart {
+    match random.below(4) {
+        0 => lane_chain(POSITIONS, MOVES),
+        1 => console_chain(POSITIONS, MOVES),
+        2 => blocks(POSITIONS, MOVES, 1),
+        _ => {
+            let height = random.between(2, 40);
+            blocks(POSITIONS, MOVES, height)
+        }
+    }
+}
+
+fn one(trial: &mut Trial, random: &mut Random, chart: &Chart) {
+    let text = chart.text();
+    let subject = Subject::new(&text);
+    assert_eq!(subject.chart(), Ok(chart), "a chart's text is read back as the chart");
+    let n = chart.len();
+    let (_, plate) = subject.write(22 * (n + 1));
+    trial.tally.inputs += 1;
+    trial.value(&subject, [n + 3, n, n + 1]);
+    trial.write(&subject, plate.len() + random.below(30));
+    trial.read(&subject, &plate, [n, n + 2, n + 1]);
+    trial.check(&subject, &plate);
+    let best = subject.valuation(chart).choices.clone();
+    let other = random_choices(random, chart);
+    for choices in [&best, &other] {
+        trial.weigh(&subject, choices, n + 1);
+        trial.compare(&subject, &plate, choices);
+        trial.solver(&subject, &plate, choices);
+    }
+    run(trial, random, chart, &subject, &plate);
+}
+
+/// A run that goes on from each answer.
+fn run(trial: &mut Trial, random: &mut Random, chart: &Chart, subject: &Subject, plate: &[u8]) {
+    let position = random.below(chart.len());
+    let mut run = trial.start(subject, plate, position);
+    for _ in 0..6 {
+        let to = went(random, chart, subject, run);
+        run = trial.report(subject, run, plate, to);
+        let value = subject.valuation(chart).values[run.position];
+        assert!(u32::from(value) + run.seen >= u32::from(run.initial), "what a run promises: {chart:?}");
+    }
+}
+
+/// Where the machine went: mostly by a move, sometimes where it can't.
+fn went(random: &mut Random, chart: &Chart, subject: &Subject, run: Run) -> usize {
+    let position = &chart.positions[run.position];
+    let to = match random.below(10) {
+        0 => return random.below(chart.len() + 2),
+        1 => *random.pick(&position.meant),
+        2..=5 if !position.disturbances.is_empty() => *random.pick(&position.disturbances),
+        _ if position.owner == Owner::Console => subject.valuation(chart).choices[run.position],
+        _ => *random.pick(&position.meant),
+    };
+    usize::from(to)
+}

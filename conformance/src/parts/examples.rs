@@ -1,0 +1,169 @@
+//! Part 0: the model itself gives what document 01 says of its example, of the charts at the edges, and of the refusals'
+//! examples.
+
+use crate::capi::{Refusal, Run, NONE};
+use crate::chart::{MOVES, POSITIONS};
+use crate::model::Subject;
+use crate::shapes::{blocks, console_chain, lane_chain};
+use crate::tally::Tally;
+use crate::trial::Trial;
+
+const CHART: &[&str] = &[
+    "H    5    8",
+    "O    0    0",
+    "L    1    0",
+    "O    2    0",
+    "L    3    1",
+    "O    4    0",
+    "M    0    1",
+    "D    0    2",
+    "M    1    0",
+    "M    2    0",
+    "M    2    2",
+    "D    2    3",
+    "M    3    3",
+    "M    4    4",
+];
+
+const PLATE: &[&str] = &[
+    "P    5    4    2    1",
+    "V    0    2    1    0",
+    "V    1    2    -    1",
+    "V    2    1    0    0",
+    "V    3    0    -    0",
+    "V    4 ever    4    -",
+];
+
+/// A chart at the edge: its name, its lines, and the value, choice and step of its first positions.
+type Edge = (&'static str, &'static [&'static str], &'static [[u16; 3]]);
+
+#[rustfmt::skip]
+const EDGES: [Edge; 11] = [
+    ("a", CHART, &[[2, 1, 0], [2, NONE, 1], [1, 0, 0], [0, NONE, 0], [NONE, 4, NONE]]),
+    ("b", &["H    1    1", "L    0    1", "M    0    0"], &[[0, NONE, 0]]),
+    ("c", &["H    1    1", "O    0    0", "M    0    0"], &[[NONE, 0, NONE]]),
+    ("d", &["H    1    2", "O    0    0", "M    0    0", "D    0    0"], &[[NONE, 0, NONE]]),
+    ("e", &["H    2    3", "O    0    0", "L    1    1", "M    0    0", "D    0    1", "M    1    1"],
+        &[[1, 0, 0], [0, NONE, 0]]),
+    ("f", &["H    2    3", "O    0    0", "L    1    0", "M    0    1", "D    0    1", "M    1    1"],
+        &[[NONE, 1, NONE], [NONE, NONE, NONE]]),
+    ("f with 1 unsafe", &["H    2    3", "O    0    0", "L    1    1", "M    0    1", "D    0    1", "M    1    1"],
+        &[[0, 1, 1], [0, NONE, 0]]),
+    ("g", &["H    2    3", "L    0    0", "L    1    1", "M    0    0", "M    0    1", "M    1    1"],
+        &[[0, NONE, 1], [0, NONE, 0]]),
+    ("h", &["H    2    2", "O    0    0", "L    1    1", "M    0    1", "M    1    1"], &[[0, 1, 1], [0, NONE, 0]]),
+    ("i", &["H    2    2", "O    0    1", "L    1    0", "M    0    1", "M    1    1"],
+        &[[0, 1, 0], [NONE, NONE, NONE]]),
+    ("j", &["H    2    2", "L    0    0", "L    1    0", "M    0    1", "M    1    0"],
+        &[[NONE, NONE, NONE], [NONE, NONE, NONE]]),
+];
+
+/// The table's examples of refusals 1 to 9: the lines of a chart, the number and the line. Edges k and l are 9 and 8.
+#[rustfmt::skip]
+const REFUSED: [(&[&str], u32, usize); 9] = [
+    (&[], 1, 0),
+    (&["H   05    8"], 2, 0),
+    (&["H    0    1"], 3, 0),
+    (&["H    1    1"], 4, 0),
+    (&["H    1    1", "O    0    2", "M    0    0"], 5, 1),
+    (&["H    1    1", "O    0    0", "M    0    1"], 6, 2),
+    (&["H    1    1", "L    0    0", "D    0    0"], 7, 2),
+    (&["H    1    2", "O    0    0", "M    0    0", "M    0    0"], 8, 3),
+    (&["H    1    1", "O    0    0", "D    0    0"], 9, 1),
+];
+
+pub fn part() -> Tally {
+    let mut trial = Trial::default();
+    for (name, lines, expected) in EDGES {
+        edge(&mut trial, name, &text(lines), expected);
+    }
+    for (lines, number, line) in REFUSED {
+        let chart = text(lines);
+        let subject = Subject::new(&chart);
+        let refusal = Refusal { number, line, ..Refusal::default() };
+        assert_eq!(subject.value([9; 3]).0.refusal, refusal, "{lines:?}");
+        trial.tally.inputs += 1;
+        trial.value(&subject, [9; 3]);
+        trial.write(&subject, 99);
+        trial.solver(&subject, &[], &[0; 9]);
+    }
+    printed(&mut trial);
+    later_refusals(&mut trial);
+    longest(&mut trial);
+    trial.tally
+}
+
+fn text(lines: &[&str]) -> Vec<u8> {
+    lines.iter().flat_map(|line| [line.as_bytes(), b"\n"].concat()).collect()
+}
+
+fn edge(trial: &mut Trial, name: &str, chart: &[u8], expected: &[[u16; 3]]) {
+    let subject = Subject::new(chart);
+    let n = expected.len();
+    let (_, rows) = subject.value([n; 3]);
+    for (v, entries) in expected.iter().enumerate() {
+        assert_eq!(&[rows[0][v], rows[1][v], rows[2][v]], entries, "edge {name}, position {v}");
+    }
+    let (_, plate) = subject.write(22 * (n + 1));
+    trial.tally.inputs += 1;
+    trial.value(&subject, [n; 3]);
+    trial.write(&subject, plate.len());
+    trial.read(&subject, &plate, [n; 3]);
+    trial.check(&subject, &plate);
+    trial.weigh(&subject, &rows[1], n);
+    trial.compare(&subject, &plate, &rows[1]);
+    trial.solver(&subject, &plate, &rows[1]);
+}
+
+/// The plate that the document prints beside its chart.
+fn printed(trial: &mut Trial) {
+    let (chart, plate) = (text(CHART), text(PLATE));
+    let subject = Subject::new(&chart);
+    let (written, bytes) = subject.write(132);
+    assert_eq!((written.length, &bytes), (132, &plate), "the printed plate");
+    assert_eq!(subject.check(&plate), Refusal::default(), "the printed plate is accepted");
+    assert_eq!(subject.compare(&plate, &[1, NONE, 0, NONE, 4]).agree, 1, "the plate's own choices");
+    trial.tally.inputs += 1;
+    trial.write(&subject, 132);
+}
+
+/// The table's examples of refusals 10 to 16, all on the printed chart.
+fn later_refusals(trial: &mut Trial) {
+    let (chart, plate) = (text(CHART), text(PLATE));
+    let subject = Subject::new(&chart);
+    let number = |number| Refusal { number, ..Refusal::default() };
+    let wrong = String::from_utf8(plate.clone()).expect("ASCII").replace("V    0    2", "V    0    3").into_bytes();
+    let run = Run { position: 0, seen: 0, initial: 2 };
+    let long = Run { seen: 99_999, ..run };
+    assert_eq!(subject.write(131).0.refusal, number(10));
+    assert_eq!(subject.read(&[], [5; 3]).0.refusal, number(11));
+    assert_eq!(subject.weigh(&[3, NONE, 0, NONE, 4], 5).0, number(12));
+    assert_eq!(subject.start(&plate, 5).refusal, number(13));
+    assert_eq!(subject.check(&wrong), Refusal { number: 14, line: 0, position: 0, condition: 4 });
+    assert_eq!(subject.report(run, &plate, 4).refusal, number(15));
+    assert_eq!(subject.report(long, &plate, 2).refusal, number(16));
+    trial.tally.inputs += 7;
+    trial.write(&subject, 131);
+    trial.read(&subject, &[], [5; 3]);
+    trial.weigh(&subject, &[3, NONE, 0, NONE, 4], 5);
+    trial.start(&subject, &plate, 5);
+    trial.check(&subject, &wrong);
+    trial.report(&subject, run, &plate, 4);
+    trial.report(&subject, long, &plate, 2);
+}
+
+/// The long charts are as long as they claim: 512 positions, 4,096 moves, 512 rounds; and one has 512 values.
+fn longest(trial: &mut Trial) {
+    let ladder = blocks(POSITIONS, MOVES, 1);
+    for chart in [lane_chain(POSITIONS, MOVES), console_chain(POSITIONS, MOVES), ladder.clone()] {
+        let text = chart.text();
+        let subject = Subject::new(&text);
+        assert_eq!((chart.len(), chart.moves()), (POSITIONS, MOVES));
+        assert_eq!(usize::from(subject.valuation(&chart).summary.rounds), POSITIONS);
+        trial.tally.inputs += 1;
+        trial.value(&subject, [POSITIONS; 3]);
+        trial.write(&subject, 22 * (POSITIONS + 1));
+    }
+    let text = ladder.text();
+    assert_eq!(Subject::new(&text).valuation(&ladder).summary.highest, 511);
+}

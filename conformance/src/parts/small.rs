@@ -1,0 +1,34 @@
+//! Part 1: every chart of one, two and three positions is valued, its plate written, read and checked, and the plate's
+//! choices weighed.
+
+use super::Share;
+use crate::chart::{small_chart, small_charts};
+use crate::model::Subject;
+use crate::tally::Tally;
+use crate::trial::Trial;
+
+pub fn part(share: Share) -> Tally {
+    let mut trial = Trial::default();
+    for n in 1..=3 {
+        for number in share.of(small_charts(n)) {
+            one(&mut trial, n, number);
+        }
+    }
+    trial.tally
+}
+
+fn one(trial: &mut Trial, n: usize, number: usize) {
+    let chart = small_chart(n, number);
+    let text = chart.text();
+    let subject = Subject::new(&text);
+    assert_eq!(subject.chart(), Ok(&chart), "a chart's text is read back as the chart");
+    let more = number / 2 % 3;
+    let (written, plate) = subject.write(22 * (n + 1));
+    assert_eq!(written.length, plate.len(), "a plate of this length was written");
+    trial.tally.inputs += 1;
+    trial.value(&subject, [n + more, n + 1, n]);
+    trial.write(&subject, plate.len() + 7 * more);
+    trial.read(&subject, &plate, [n, n + more, n + 1]);
+    trial.check(&subject, &plate);
+    trial.weigh(&subject, &subject.valuation(&chart).choices, n + more);
+}

@@ -1,0 +1,131 @@
+//! The four long jobs once more, written for speed: linear time in the chart, local arrays and no heap. The timings set
+//! the library beside this, and the test holds it to the model.
+
+mod board;
+mod field;
+mod plate;
+mod rounds;
+
+use crate::capi::{Refusal, Valued, Written, NONE};
+use crate::chart::POSITIONS;
+use board::Board;
+use plate::{Plate, LINE};
+
+type Row = [u16; POSITIONS];
+
+fn refused(number: u32) -> Refusal {
+    Refusal { number, ..Refusal::default() }
+}
+
+/// Valuing.
+pub fn value(chart: &[u8], values: &mut [u16], choices: &mut [u16], steps: &mut [u16]) -> Valued {
+    match valued(chart, values, choices, steps) {
+        Ok(rounds) => Valued { refusal: Refusal::default(), rounds },
+        Err(refusal) => Valued { refusal, rounds: 0 },
+    }
+}
+
+fn valued(chart: &[u8], values: &mut [u16], choices: &mut [u16], steps: &mut [u16]) -> Result<u16, Refusal> {
+    let mut board = Board::empty();
+    board.read(chart)?;
+    let n = board.n;
+    if values.len() < n || choices.len() < n || steps.len() < n {
+        return Err(refused(10));
+    }
+    let mut plate = Plate::empty();
+    solve(&board, &mut plate);
+    values[..n].copy_from_slice(&plate.values[..n]);
+    choices[..n].copy_from_slice(&plate.choices[..n]);
+    steps[..n].copy_from_slice(&plate.steps[..n]);
+    Ok(plate.summary.rounds)
+}
+
+/// Writing.
+pub fn write(chart: &[u8], buffer: &mut [u8]) -> Written {
+    match written(chart, buffer) {
+        Ok(length) => Written { refusal: Refusal::default(), length },
+        Err(refusal) => Written { refusal, length: 0 },
+    }
+}
+
+fn written(chart: &[u8], buffer: &mut [u8]) -> Result<usize, Refusal> {
+    let mut board = Board::empty();
+    board.read(chart)?;
+    let length = LINE * (board.n + 1);
+    if buffer.len() < length {
+        return Err(refused(10));
+    }
+    let mut plate = Plate::empty();
+    solve(&board, &mut plate);
+    plate.write(board.n, &mut buffer[..length]);
+    Ok(length)
+}
+
+/// Checking.
+pub fn check(chart: &[u8], text: &[u8]) -> Refusal {
+    checked(chart, text).err().unwrap_or_default()
+}
+
+fn checked(chart: &[u8], text: &[u8]) -> Result<(), Refusal> {
+    let mut board = Board::empty();
+    board.read(chart)?;
+    let mut plate = Plate::empty();
+    plate.read(board.n, text)?;
+    plate.check(&board)
+}
+
+/// Weighing.
+pub fn weigh(chart: &[u8], choices: &[u16], worths: &mut [u16]) -> Refusal {
+    weighed(chart, choices, worths).err().unwrap_or_default()
+}
+
+fn weighed(chart: &[u8], choices: &[u16], worths: &mut [u16]) -> Result<(), Refusal> {
+    let mut board = Board::empty();
+    board.read(chart)?;
+    let n = board.n;
+    if choices.len() < n || worths.len() < n {
+        return Err(refused(10));
+    }
+    let choices = &choices[..n];
+    let legal = choices.iter().enumerate().all(|(v, &choice)| board.may_choose(v, choice));
+    if !legal {
+        return Err(refused(12));
+    }
+    let (mut values, mut steps): (Row, Row) = ([NONE; POSITIONS], [NONE; POSITIONS]);
+    // At O one meant move is left, so its target decides.
+    let follows = |from: usize, to: u16| !board.console[from] || choices[from] == to;
+    rounds::place(&board, &mut values, &mut steps, follows);
+    worths[..n].copy_from_slice(&values[..n]);
+    Ok(())
+}
+
+/// The plate of a chart.
+fn solve(board: &Board, plate: &mut Plate) {
+    let mut left = [0; POSITIONS];
+    for (v, count) in left[..board.n].iter_mut().enumerate() {
+        *count = board.meant(v).len() as u16;
+    }
+    // At O the last meant target decides.
+    let follows = |from: usize, _| {
+        left[from] -= 1;
+        !board.console[from] || left[from] == 0
+    };
+    let rounds = rounds::place(board, &mut plate.values, &mut plate.steps, follows);
+    for v in 0..board.n {
+        if board.console[v] {
+            plate.choices[v] = greatest(board.meant(v), &plate.values);
+        }
+    }
+    plate.summary = plate.summed(board.n, rounds);
+}
+
+/// The first of the targets with the greatest value.
+fn greatest(targets: &[u16], values: &Row) -> u16 {
+    let mut best = targets[0];
+    for &to in &targets[1..] {
+        if values[usize::from(to)] > values[usize::from(best)] {
+            best = to;
+        }
+    }
+    best
+}

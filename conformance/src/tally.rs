@@ -1,0 +1,89 @@
+//! What was tried: inputs, calls, and how often each job gave each refusal.
+
+/// The jobs, in the order of the header.
+pub const JOBS: [&str; 8] = ["value", "write", "read", "check", "weigh", "compare", "start", "report"];
+
+/// The refusals of the table, with 0 for none.
+const NUMBERS: usize = 17;
+
+/// The refusals above 9 that each job has.
+const BEYOND: [&[usize]; 8] =
+    [&[10], &[10], &[10, 11], &[11, 14], &[10, 12], &[10, 11, 12, 14], &[11, 13, 14], &[11, 13, 15, 16]];
+
+/// Fewer sightings than this of a refusal or a condition are too few to count as a test of it.
+const ENOUGH: u64 = 100;
+
+#[derive(Clone, Default)]
+pub struct Tally {
+    pub inputs: u64,
+    pub calls: u64,
+    pub refusals: [[u64; NUMBERS]; 8],
+    /// The conditions of refusal 14, 1 to 6.
+    pub conditions: [u64; 7],
+    /// Comparisons that found the rows the same, and that found them different.
+    pub agreed: u64,
+    pub differed: u64,
+}
+
+impl Tally {
+    pub fn add(&mut self, other: &Tally) {
+        self.inputs += other.inputs;
+        self.calls += other.calls;
+        self.agreed += other.agreed;
+        self.differed += other.differed;
+        for (sum, part) in self.refusals.iter_mut().flatten().zip(other.refusals.iter().flatten()) {
+            *sum += part;
+        }
+        for (sum, part) in self.conditions.iter_mut().zip(&other.conditions) {
+            *sum += part;
+        }
+    }
+
+    /// Prints how often each job gave each refusal.
+    pub fn print(&self) {
+        print!("{:>8}", "refusal");
+        JOBS.iter().for_each(|job| print!("{job:>10}"));
+        println!();
+        for number in 0..NUMBERS {
+            let name = if number == 0 { "none".to_string() } else { number.to_string() };
+            print!("{name:>8}");
+            for job in 0..JOBS.len() {
+                match has(job, number) {
+                    true => print!("{:>10}", self.refusals[job][number]),
+                    false => print!("{:>10}", "."),
+                }
+            }
+            println!();
+        }
+        let conditions: Vec<String> = (1..7).map(|c| format!("{c}: {}", self.conditions[c])).collect();
+        println!("conditions of refusal 14: {}", conditions.join(", "));
+        println!("comparisons: {} the same, {} different", self.agreed, self.differed);
+    }
+
+    /// What was seen too seldom for this to be a test of it, if all counts of inputs were divided by `divisor`.
+    pub fn missing(&self, divisor: usize) -> Vec<String> {
+        let mut missing = Vec::new();
+        let enough = (ENOUGH / divisor as u64).max(1);
+        let mut want = |count: u64, name: String| {
+            if count < enough {
+                missing.push(format!("{name} was seen {count} times only"));
+            }
+        };
+        for (job, name) in JOBS.iter().enumerate() {
+            for number in (0..NUMBERS).filter(|&number| has(job, number)) {
+                want(self.refusals[job][number], format!("{name} with refusal {number}"));
+            }
+        }
+        for condition in 1..7 {
+            want(self.conditions[condition], format!("condition {condition}"));
+        }
+        want(self.agreed, "agreement of worths and values".to_string());
+        want(self.differed, "difference of worths and values".to_string());
+        missing
+    }
+}
+
+/// Whether a job has a refusal. All have 1 to 9.
+fn has(job: usize, number: usize) -> bool {
+    number < 10 || BEYOND[job].contains(&number)
+}

@@ -1,0 +1,226 @@
+//! One call of the library set against the model: the whole answer, and every lent byte or number after the call.
+
+use crate::capi::{self, Refusal, Run};
+use crate::model::{plate_text, Plate, Subject};
+use crate::solver;
+use crate::tally::{Tally, JOBS};
+use std::fmt::Debug;
+
+/// How many elements before and after what is lent are watched too.
+const GUARD: usize = 8;
+
+/// What lent memory holds before a call: a different thing at each place, and nothing that a job would write.
+pub trait Pattern: Copy + PartialEq {
+    fn at(place: usize) -> Self;
+}
+
+impl Pattern for u8 {
+    fn at(place: usize) -> u8 {
+        0x80 | (place.wrapping_mul(37) & 0x7f) as u8
+    }
+}
+
+impl Pattern for u16 {
+    fn at(place: usize) -> u16 {
+        0x8000 | (place.wrapping_mul(37) & 0x3fff) as u16
+    }
+}
+
+/// Memory to lend, with guards on both sides.
+pub struct Lent<T> {
+    cells: Vec<T>,
+}
+
+impl<T: Pattern> Lent<T> {
+    pub fn new(length: usize) -> Lent<T> {
+        Lent { cells: (0..length + 2 * GUARD).map(T::at).collect() }
+    }
+
+    pub fn lend(&mut self) -> &mut [T] {
+        let end = self.cells.len() - GUARD;
+        &mut self.cells[GUARD..end]
+    }
+
+    /// Whether what was lent begins with `front` and all else is as it was.
+    pub fn holds(&self, front: &[T]) -> bool {
+        let end = GUARD + front.len();
+        let same = |from: usize, cells: &[T]| cells.iter().enumerate().all(|(i, &cell)| cell == T::at(from + i));
+        self.cells.len() >= end + GUARD
+            && same(0, &self.cells[..GUARD])
+            && self.cells[GUARD..end] == *front
+            && same(end, &self.cells[end..])
+    }
+
+    fn shown(&self) -> &[T] {
+        &self.cells
+    }
+}
+
+/// What a job was given besides the chart, to be shown at a mismatch.
+#[derive(Default)]
+struct Given<'a> {
+    choices: &'a [u16],
+    lengths: &'a [usize],
+    run: Option<Run>,
+    position: Option<usize>,
+}
+
+/// Calls the library and the model alike and counts; ends the program at the first mismatch.
+#[derive(Default)]
+pub struct Trial {
+    pub tally: Tally,
+}
+
+impl Trial {
+    pub fn value(&mut self, subject: &Subject, lengths: [usize; 3]) {
+        let (answer, rows) = subject.value(lengths);
+        let mut lent = lengths.map(Lent::new);
+        let [values, choices, steps] = &mut lent;
+        let got = capi::value(subject.text, values.lend(), choices.lend(), steps.lend());
+        let given = Given { lengths: &lengths, ..Given::default() };
+        self.settle(0, answer.refusal, got == answer && hold(&lent, &rows), || {
+            show(0, subject, &[], &given, &(answer, &rows), &(got, lent.each_ref().map(Lent::shown)))
+        });
+    }
+
+    pub fn write(&mut self, subject: &Subject, length: usize) {
+        let (answer, text) = subject.write(length);
+        let mut lent = Lent::new(length);
+        let got = capi::write(subject.text, lent.lend());
+        let given = Given { lengths: &[length], ..Given::default() };
+        self.settle(1, answer.refusal, got == answer && lent.holds(&text), || {
+            show(1, subject, &[], &given, &(answer, escaped(&text)), &(got, escaped(lent.shown())))
+        });
+    }
+
+    pub fn read(&mut self, subject: &Subject, plate: &[u8], lengths: [usize; 3]) {
+        let (answer, rows) = subject.read(plate, lengths);
+        let mut lent = lengths.map(Lent::new);
+        let [values, choices, steps] = &mut lent;
+        let got = capi::read(subject.text, plate, values.lend(), choices.lend(), steps.lend());
+        let given = Given { lengths: &lengths, ..Given::default() };
+        self.settle(2, answer.refusal, got == answer && hold(&lent, &rows), || {
+            show(2, subject, plate, &given, &(answer, &rows), &(got, lent.each_ref().map(Lent::shown)))
+        });
+        if answer.refusal.number == 0 {
+            let [values, choices, steps] = rows;
+            let again = plate_text(&Plate { summary: answer.summary, values, choices, steps });
+            assert_eq!(again, plate, "what was read, set out again, is the same bytes");
+        }
+    }
+
+    pub fn check(&mut self, subject: &Subject, plate: &[u8]) {
+        let answer = subject.check(plate);
+        let got = capi::check(subject.text, plate);
+        self.settle(3, answer, got == answer, || show(3, subject, plate, &Given::default(), &answer, &got));
+        if answer.number == 0 {
+            accepted(subject, plate);
+        }
+    }
+
+    pub fn weigh(&mut self, subject: &Subject, choices: &[u16], length: usize) {
+        let (answer, worths) = subject.weigh(choices, length);
+        let mut lent = Lent::new(length);
+        let got = capi::weigh(subject.text, choices, lent.lend());
+        let given = Given { choices, lengths: &[length], ..Given::default() };
+        self.settle(4, answer, got == answer && lent.holds(&worths), || {
+            show(4, subject, &[], &given, &(answer, &worths), &(got, lent.shown()))
+        });
+    }
+
+    pub fn compare(&mut self, subject: &Subject, plate: &[u8], choices: &[u16]) {
+        let answer = subject.compare(plate, choices);
+        let got = capi::compare(subject.text, plate, choices);
+        let given = Given { choices, ..Given::default() };
+        self.settle(5, answer.refusal, got == answer, || show(5, subject, plate, &given, &answer, &got));
+        if answer.refusal.number == 0 {
+            self.tally.agreed += u64::from(answer.agree);
+            self.tally.differed += u64::from(answer.agree == 0);
+        }
+    }
+
+    /// The model's run, which is the library's too.
+    pub fn start(&mut self, subject: &Subject, plate: &[u8], position: usize) -> Run {
+        let answer = subject.start(plate, position);
+        let got = capi::start(subject.text, plate, position);
+        let given = Given { position: Some(position), ..Given::default() };
+        self.settle(6, answer.refusal, got == answer, || show(6, subject, plate, &given, &answer, &got));
+        answer.run
+    }
+
+    pub fn report(&mut self, subject: &Subject, run: Run, plate: &[u8], to: usize) -> Run {
+        let answer = subject.report(run, plate, to);
+        let got = capi::report(run, subject.text, plate, to);
+        let given = Given { run: Some(run), position: Some(to), ..Given::default() };
+        self.settle(7, answer.refusal, got == answer, || show(7, subject, plate, &given, &answer, &got));
+        answer.run
+    }
+
+    /// The fast solver of the timings set against the model. These are no calls of the library, so none is counted.
+    pub fn solver(&mut self, subject: &Subject, plate: &[u8], choices: &[u16]) {
+        let length = choices.len();
+        let (answer, rows) = subject.value([length; 3]);
+        let mut lent = [length; 3].map(Lent::new);
+        let [a, b, c] = &mut lent;
+        let valued = solver::value(subject.text, a.lend(), b.lend(), c.lend());
+        assert!(valued == answer && hold(&lent, &rows), "solver's value: {}", escaped(subject.text));
+        let (answer, text) = subject.write(22 * (length + 1));
+        let mut lent = Lent::new(22 * (length + 1));
+        let written = solver::write(subject.text, lent.lend());
+        assert!(written == answer && lent.holds(&text), "solver's write: {}", escaped(subject.text));
+        let checked = solver::check(subject.text, plate);
+        assert_eq!(checked, subject.check(plate), "solver's check: {}", escaped(subject.text));
+        let (answer, worths) = subject.weigh(choices, length);
+        let mut lent = Lent::new(length);
+        let weighed = solver::weigh(subject.text, choices, lent.lend());
+        assert!(weighed == answer && lent.holds(&worths), "solver's weigh: {}", escaped(subject.text));
+    }
+
+    /// Counts a call of the job at this place among the jobs, or ends the program.
+    fn settle(&mut self, job: usize, refusal: Refusal, same: bool, show: impl FnOnce()) {
+        if !same {
+            show();
+            std::process::exit(1);
+        }
+        self.tally.calls += 1;
+        self.tally.refusals[job][refusal.number as usize] += 1;
+        if refusal.number == 14 {
+            self.tally.conditions[usize::from(refusal.condition)] += 1;
+        }
+    }
+}
+
+/// What document 01 says of accepted plates: the values are right, and the choices make an optimal controller.
+fn accepted(subject: &Subject, plate: &[u8]) {
+    let chart = subject.chart().expect("the chart was taken");
+    let right = &subject.valuation(chart).values;
+    let (_, [values, choices, _]) = subject.read(plate, [chart.len(); 3]);
+    assert_eq!(&values, right, "an accepted plate's values: {chart:?}");
+    assert_eq!(&subject.weigh(&choices, chart.len()).1, right, "an accepted plate's choices: {chart:?}");
+}
+
+fn hold(lent: &[Lent<u16>; 3], rows: &[Vec<u16>; 3]) -> bool {
+    lent.iter().zip(rows).all(|(lent, row)| lent.holds(row))
+}
+
+fn escaped(text: &[u8]) -> String {
+    text.escape_ascii().to_string()
+}
+
+/// Prints a mismatch in one piece, since the other thread may print too.
+fn show(job: usize, subject: &Subject, plate: &[u8], given: &Given, model: &dyn Debug, library: &dyn Debug) {
+    let lines = |text: &[u8], length| {
+        text.chunks(length).map(|line| format!("  {}\n", line.escape_ascii())).collect::<String>()
+    };
+    println!(
+        "mismatch in {}\nchart\n{}plate\n{}choices {:?}, lengths {:?}, run {:?}, position {:?}\n\
+         model   {model:?}\nlibrary {library:?}",
+        JOBS[job],
+        lines(subject.text, 12),
+        lines(plate, 22),
+        given.choices,
+        given.lengths,
+        given.run,
+        given.position,
+    );
+}

@@ -1,0 +1,4 @@
+pub mod Choose
+pub mod ChooseLaws
+pub mod Summarize
+pub mod SummarizeLaws

@@ -1,0 +1,81 @@
+// An accepted chart as rows of numbers, on which every job works. What the rows hold is in specs/Loaded.antt.
+ghost use mathlib.Core.Path.{_≡_};
+ghost use Prim.Native.Nat.{_+_, _≤_};
+ghost use lib.ListN.{length};
+ghost use Rattle.chart.specs.Examined.{examined};
+ghost use Rattle.chart.specs.Meaning.{ownerOf};
+ghost use Rattle.decode.specs.Rows.{ownerNumber};
+ghost use Rattle.decode.specs.Loaded.{PositionRows, MoveRows, LoadIs};
+use chart::Chart;
+use chart::Examination;
+use chart::cost;
+use chart::examine;
+use chart::from_at;
+use chart::mark_at;
+use chart::number;
+use chart::to_at;
+
+// Examines a chart and, where it is accepted, decodes it into rows: owner (0 the controller, 1 the environment) and mark of
+// each position, cost (0 meant, 1 a disturbance), from and to of each move. What lies past them stays, and on a refusal all
+// of it does. The rows have room for every chart, so that a caller's local arrays of the limits' sizes serve.
+pub fn load(
+    text: &[u8],
+    owners: &mut [u8],
+    marks: &mut [u8],
+    costs: &mut [u8],
+    froms: &mut [u16],
+    tos: &mut [u16],
+) -> Examination
+    requires { ⌜ (512 ≤ length (now owners)) × (512 ≤ length (now marks)) ⌝ }
+    requires { ⌜ (4096 ≤ length (now costs)) × (4096 ≤ length (now froms)) × (4096 ≤ length (now tos)) ⌝ }
+    ensures { λ r. ⌜ LoadIs (now (text .entry)) r (now (owners .entry)) (now (owners .exit)) (now (marks .entry)) (now (marks .exit)) (now (costs .entry)) (now (costs .exit)) (now (froms .entry)) (now (froms .exit)) (now (tos .entry)) (now (tos .exit)) ⌝ }
+{
+    match examine(text) {
+        Examination::Refused(r) => Examination::Refused(r),
+        Examination::Accepted(chart) => {
+            decode_positions(text, chart, owners, marks);
+            decode_moves(text, chart, costs, froms, tos);
+            Examination::Accepted(chart)
+        }
+    }
+}
+
+// The rows of an accepted text's positions, on the lines from 1 on.
+fn decode_positions(text: &[u8], chart: Chart, owners: &mut [u8], marks: &mut [u8])
+    requires { ⌜ examined (now text) ≡ Examination.Accepted chart ⌝ }
+    requires { ⌜ (chart .positions ≤ length (now owners)) × (chart .positions ≤ length (now marks)) ⌝ }
+    ensures { λ _. ⌜ PositionRows (now (text .entry)) (chart .positions) (now (owners .entry)) (now (owners .exit)) (now (marks .entry)) (now (marks .exit)) ⌝ }
+{
+    let n = chart.positions;
+    let mut v = 0;
+    while v < n {
+        owners[v] = owner(text[(v + 1) * Chart::LINE]);
+        marks[v] = number(mark_at(text, v + 1)) as u8;
+        v += 1;
+    }
+}
+
+// The rows of an accepted text's moves, on the lines after the positions.
+fn decode_moves(text: &[u8], chart: Chart, costs: &mut [u8], froms: &mut [u16], tos: &mut [u16])
+    requires { ⌜ examined (now text) ≡ Examination.Accepted chart ⌝ }
+    requires { ⌜ (chart .moves ≤ length (now costs)) × (chart .moves ≤ length (now froms)) × (chart .moves ≤ length (now tos)) ⌝ }
+    ensures { λ _. ⌜ MoveRows (now (text .entry)) (chart .positions + 1) (chart .moves) (now (costs .entry)) (now (costs .exit)) (now (froms .entry)) (now (froms .exit)) (now (tos .entry)) (now (tos .exit)) ⌝ }
+{
+    let first = chart.positions + 1;
+    let m = chart.moves;
+    let mut i = 0;
+    while i < m {
+        let line = first + i;
+        costs[i] = cost(text[line * Chart::LINE]);
+        froms[i] = from_at(text, line) as u16;
+        tos[i] = to_at(text, line) as u16;
+        i += 1;
+    }
+}
+
+// The controller is 0, the environment 1.
+fn owner(letter: u8) -> u8
+    ensures { λ r. ⌜ r ≡ ownerNumber (ownerOf letter) ⌝ }
+{
+    if letter == b'L' { 1 } else { 0 }
+}

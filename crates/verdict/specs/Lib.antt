@@ -1,0 +1,13 @@
+pub mod Verdict
+pub mod Position
+pub mod Sheet
+pub mod RowsChecked
+pub mod VerdictLaws
+pub mod Walk
+pub mod Numbers
+pub mod Shown
+pub mod RowFault
+pub mod RowsCheckedLaws
+pub mod Exact
+pub mod Accepted
+pub mod SameFault

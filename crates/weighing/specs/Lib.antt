@@ -1,0 +1,4 @@
+pub mod Weighing
+pub mod Weigh
+pub mod WeighLaws
+pub mod WeighingLaws

@@ -1,0 +1,330 @@
+-- Weighing over rows is weighing in the arena: the copied moves are the restricted arena's, whose values are the worths
+-- (game: `restricted-value-is-worth`), and the code's test of the choices is condition 3.
+use Prim.Native.Nat.{ℕ, zero, suc, _+_, _≤_, _<_}
+use native.Mathlib.Decide.{ℕ-discrete}
+use native.Mathlib.Omega.{arith}
+use mathlib.Core.Path.{_≡_, refl, sym, ap, ap₂, subst, _∙_}
+use mathlib.Core.Logic.{_↔_}
+use mathlib.Core.Bool.{Bool, true, false, cond, not, _&&_, _||_, and-true, and-false, Bool·not-not}
+use mathlib.Core.List.{List, [], _∷_, _++_, map, map-append, append-nil}
+use lib.ListN.{length, getD, take, length-map, length-append, List·getD-append}
+use lib.Seq.{take-suc, take-all, getD-append-seam}
+use lib.Dec.{T, eqb, leb}
+use borrow.Author.Tests.{eq-eqb, ne-eqb}
+use Rattle.game.specs.Value.{Value, fin, ever, eqV, numberOf, valueOf}
+use Rattle.game.specs.ValueLaws.{Fits, value-of-number}
+use Rattle.game.specs.Arena.{Arena, Move, Owner, controller, environment, WellFormed, size, positionAt, ownerAt, moveAt, noMove}
+use Rattle.game.specs.Play.{Legal, LegalAt, positional}
+use Rattle.game.specs.Worth.{WorthIs, IsValue}
+use Rattle.game.specs.Restrict.{isController, stays, keep, restricted}
+use Rattle.game.specs.RestrictLaws.{restricted-is-well-formed, restricted-value-is-worth}
+use Rattle.game.specs.RoundValues.{rounds-give-the-values}
+use Rattle.game.specs.Table.{table, placementAt, valueIn, roundValue, someMove, meantFrom}
+use Rattle.game.specs.Fault.{legalAs}
+use Rattle.game.specs.ConditionTests.{legal-test}
+use Rattle.game.specs.Summary.{someBelow}
+use Rattle.decode.specs.Rows.{RowIs, ownerNumber}
+use Rattle.chart.specs.Meaning.{arenaOf}
+use Rattle.chart.specs.Examined.{examined}
+use Rattle.chart.specs.Accepted.{accepted-size}
+use Rattle.chart.specs.declared.Chart.{Chart}
+use Rattle.refusal.specs.declared.Refusal.{Refusal}
+use Rattle.chart.specs.declared.Examination.the-variants.{Accepted, Refused}
+use Rattle.solver.specs.RowLaws.{Stays, Marked, found, numberAt, some-hit}
+use Rattle.solver.specs.Solve.{bit, Within}
+use Rattle.solver.specs.Held.{Holds, Decoded, Solved}
+use Rattle.solver.specs.HeldLaws.{bit-one, from-inside, to-inside, lines-of}
+use Rattle.choice.specs.Summarize.{rowValue}
+use Rattle.choice.specs.SummarizeLaws.{same-values, ever-number, some-same}
+use Rattle.value.specs.ValuingLaws.{round-value-fits}
+use Rattle.weighing.specs.Weigh.{isChosen, isLegal, moveStays, passing, Copied}
+use Rattle.weighing.specs.WeighLaws.{passing-length}
+use Rattle.weighing.specs.Weighing.{legalRow, WorthRow, RestrictedSolved, RowsWeighed, weighed, weighedBy, WeighedIs}
+use Rattle.weighing.specs.declared.Weighed.the-variants.{Done, Refused as Turned, Short, Choice}
+
+-- The moves that stay
+
+keep-append : (p : Move → Bool) (xs ys : List Move) → keep p (xs ++ ys) ≡ keep p xs ++ keep p ys
+unfolding keep
+keep-append p [] ys = refl
+keep-append p (x ∷ xs) ys = rw (keep-append p xs ys) (go (p x))
+  where
+    go : (b : Bool) → cond b (x ∷ (keep p xs ++ keep p ys)) (keep p xs ++ keep p ys) ≡ cond b (x ∷ keep p xs) (keep p xs) ++ keep p ys
+    go true = refl
+    go false = refl
+
+-- the moves that pass a test are those on the lines that pass it
+keep-lines : (p : Move → Bool) (q : ℕ → Bool) (ms : List Move) → ((j : ℕ) → j < length ms → q j ≡ p (getD ms j noMove)) → (i : ℕ) → i ≤ length ms
+    → keep p (take i ms) ≡ map (λ j. getD ms j noMove) (passing q i)
+unfolding keep passing
+keep-lines p q ms h zero l = refl
+keep-lines p q ms h (suc i) l =
+    ap (keep p) (take-suc ms i noMove l) ∙ keep-append p (take i ms) (getD ms i noMove ∷ [])
+    ∙ ap₂ _++_ (keep-lines p q ms h i (omega arith)) (rw (← h i l) (go (q i)))
+    ∙ sym (map-append (λ j. getD ms j noMove) (passing q i) (cond (q i) (i ∷ []) []))
+  where
+    go : (b : Bool) → cond b (getD ms i noMove ∷ []) [] ≡ map (λ j. getD ms j noMove) (cond b (i ∷ []) [])
+    go true = refl
+    go false = refl
+
+map-at : {A : Type 0} (f : ℕ → A) (l : List ℕ) (j : ℕ) (x : A) → j < length l → getD (map f l) j x ≡ f (getD l j 0)
+map-at f [] j x l = absurd (omega arith)
+map-at f (y ∷ ys) zero x l = refl
+map-at f (y ∷ ys) (suc j) x l = map-at f ys j x (omega arith)
+
+passing-below : (q : ℕ → Bool) (i j : ℕ) → j < length (passing q i) → getD (passing q i) j 0 < i
+unfolding passing
+passing-below q zero j l = absurd (omega arith)
+passing-below q (suc i) j l = go (q i) l (passing-below q i j)
+  where
+    k : ℕ
+    k = length (passing q i)
+
+    go : (b : Bool) → j < length (passing q i ++ cond b (i ∷ []) []) → (j < k → getD (passing q i) j 0 < i) → getD (passing q i ++ cond b (i ∷ []) []) j 0 < suc i
+    go false l rec = rw (append-nil (passing q i)) (let h = rec (rw (append-nil (passing q i)) at l) in omega arith)
+    go true l rec = here (ℕ-discrete j k)
+      where
+        here : Dec (j ≡ k) → getD (passing q i ++ (i ∷ [])) j 0 < suc i
+        here (yes z) = rw (z, getD-append-seam (passing q i) i [] 0) (omega arith)
+        here (no z) =
+            let f = length-append (passing q i) (i ∷ []) in
+            let m : j < k = omega arith in
+            rw (List·getD-append (passing q i) (i ∷ []) 0 j m) (let h = rec m in omega arith)
+
+module _ (a : Arena) (n m : ℕ) (owners costs froms tos choices : List ℕ) (small : n ≤ 512) (d : Decoded a n m owners costs froms tos) where
+  abbrev choice : ℕ → Value
+  choice = rowValue choices
+
+  -- a target as a choice
+  target-choice : (x t : ℕ) → t < n → eqV (valueOf x) (fin t) ≡ eqb x t
+  unfolding valueOf
+  target-choice x t l = rw (← same-values x t, ne-eqb t 65535 (λ e. omega arith))
+
+  owner-test : (v : ℕ) → v < n → eqb (getD owners v 0) 0 ≡ isController (ownerAt a v)
+  owner-test v l = rw (d .owner v l) (go (ownerAt a v))
+    where
+      go : (o : Owner) → eqb (ownerNumber o) 0 ≡ isController o
+      go controller = refl
+      go environment = refl
+
+  stays-is : (j : ℕ) → j < m → moveStays owners costs froms tos choices j ≡ stays a choice (moveAt a j)
+  unfolding moveStays stays
+  stays-is j l =
+      rw (d .cost j l, d .from j l, d .to j l, owner-test (moveAt a j .from) (from-inside a n m owners costs froms tos d j l), ← target-choice (getD choices (moveAt a j .from) 0) (moveAt a j .to) (to-inside a n m owners costs froms tos d j l))
+
+  kept-moves : restricted a choice .moves ≡ map (λ j. moveAt a j) (passing (moveStays owners costs froms tos choices) m)
+  unfolding restricted
+  kept-moves =
+      let p = d .moves in
+      ap (keep (stays a choice)) (sym (take-all m (a .moves) (omega arith)))
+      ∙ keep-lines (stays a choice) (moveStays owners costs froms tos choices) (a .moves) (λ j l. stays-is j (omega arith)) m (omega arith)
+
+  module _ (count : ℕ) (costs′ froms′ tos′ : List ℕ) (copied : Copied owners costs froms tos choices m count costs′ froms′ tos′) where
+    q : ℕ → Bool
+    q = moveStays owners costs froms tos choices
+
+    -- the line of the j-th move that stays
+    lineOf : ℕ → ℕ
+    lineOf j = getD (passing q m) j 0
+
+    line-inside : (j : ℕ) → j < count → lineOf j < m
+    unfolding lineOf q
+    line-inside j l = let e = copied .counted in passing-below q m j (omega arith)
+
+    kept-move : (j : ℕ) → j < count → moveAt (restricted a choice) j ≡ moveAt a (lineOf j)
+    unfolding lineOf q
+    kept-move j l =
+        let e = copied .counted in
+        ap (λ (ms : List Move). getD ms j noMove) kept-moves ∙ map-at (λ i. moveAt a i) (passing q m) j noMove (omega arith)
+
+    pub copied-decoded : Legal a choice → Decoded (restricted a choice) n count owners costs′ froms′ tos′
+    unfolding restricted lineOf q
+    copied-decoded legal =
+        record {
+          well = restricted-is-well-formed a choice (d .well) legal;
+          positions = d .positions;
+          moves = ap length kept-moves ∙ length-map (passing q m) (λ j. moveAt a j) ∙ sym (copied .counted);
+          owner = d .owner;
+          cost = λ j l. copied .cost j (rw (copied .counted) at l) ∙ d .cost (lineOf j) (line-inside j l) ∙ ap (λ (x : Move). x .cost) (sym (kept-move j l));
+          from = λ j l. copied .from j (rw (copied .counted) at l) ∙ d .from (lineOf j) (line-inside j l) ∙ ap (λ (x : Move). x .from) (sym (kept-move j l));
+          to = λ j l. copied .to j (rw (copied .counted) at l) ∙ d .to (lineOf j) (line-inside j l) ∙ ap (λ (x : Move). x .to) (sym (kept-move j l));
+        }
+
+    -- the rounds of the copied moves are the restricted arena's
+    pub solved-worths : {marks worths worths′ steps steps′ : List ℕ} → RowIs marks n (λ v. positionAt a v .mark) → Legal a choice
+        → Solved n count owners marks costs′ froms′ tos′ worths steps worths′ steps′ → RowIs worths′ n (λ v. numberOf (roundValue (restricted a choice) v))
+    unfolding roundValue restricted
+    solved-worths marked legal solved = solved .rows (restricted a choice) (copied-decoded legal) marked .value
+
+  -- The choices
+
+  -- the code's test is condition 3
+  legal-is : (flags : List ℕ) → Marked n (numberAt froms) (isChosen costs froms tos choices) (λ v. bit) m flags → (v : ℕ) → v < n
+      → isLegal owners choices flags v ≡ legalAs a choice choice choice (ownerAt a v) v
+  unfolding isLegal legalAs isChosen meantFrom
+  legal-is flags marked v l = rw (d .owner v l) (go (ownerAt a v) refl)
+    where
+      into : Move → Bool
+      into x = meantFrom v x && eqV (choice v) (fin (x .to))
+
+      same : (j : ℕ) → j < m → moveAt a j .from ≡ v → isChosen costs froms tos choices j ≡ into (moveAt a j)
+      same j k z =
+          rw (d .cost j k, d .from j k, d .to j k, eq-eqb (moveAt a j .from) v z, and-true, target-choice (getD choices v 0) (moveAt a j .to) (to-inside a n m owners costs froms tos d j k), z)
+
+      other : (x : Move) → eqb (x .from) v ≡ false → into x ≡ false
+      other x e = rw (e, and-false)
+
+      go : (o : Owner) → ownerAt a v ≡ o
+          → cond (eqb (ownerNumber o) 0) (eqb (getD flags v 0) 1) (eqb (getD choices v 0) 65535) ≡ legalAs a choice choice choice o v
+      go controller own = rw (marked .marks v l) (bit-one _ ∙ lines-of a n m owners costs froms tos d v (isChosen costs froms tos choices) into same other)
+      go environment own = sym (ever-number (getD choices v 0))
+
+  pub legal-row-is : (flags : List ℕ) → Marked n (numberAt froms) (isChosen costs froms tos choices) (λ v. bit) m flags
+      → not (someBelow (λ v. not (isLegal owners choices flags v)) n) ≡ legalRow a choice n
+  unfolding legalRow
+  legal-row-is flags marked =
+      ap not (some-same (λ v. not (isLegal owners choices flags v)) (λ v. not (legalAs a choice choice choice (ownerAt a v) v)) n (λ v l. ap not (legal-is flags marked v l)))
+
+-- legal choices, as a test
+pub legal-row-sound : (a : Arena) (choice : ℕ → Value) → legalRow a choice (size a) ≡ true → Legal a choice
+unfolding legalRow
+legal-row-sound a choice e v l = go (legalAs a choice choice choice (ownerAt a v) v) refl
+  where
+    go : (b : Bool) → legalAs a choice choice choice (ownerAt a v) v ≡ b → LegalAt a choice v
+    go true f = legal-test a choice choice choice (ownerAt a v) v .0 (subst T (sym f) tt)
+    go false f =
+        let w : _≡_ {A = Bool} false true = ap not (sym (some-hit (λ u. not (legalAs a choice choice choice (ownerAt a u) u)) (size a) v l (ap not f))) ∙ e in
+        let z : _≡_ {A = ℕ} 0 1 = cc in
+        absurd (omega arith)
+
+none-below : (p : ℕ → Bool) (n : ℕ) → ((v : ℕ) → v < n → p v ≡ false) → someBelow p n ≡ false
+unfolding someBelow
+none-below p zero h = refl
+none-below p (suc n) h = rw (none-below p n (λ v l. h v (omega arith)), h n (omega arith))
+
+pub legal-row-complete : (a : Arena) (choice : ℕ → Value) → Legal a choice → legalRow a choice (size a) ≡ true
+unfolding legalRow
+legal-row-complete a choice legal =
+    ap not (none-below (λ u. not (legalAs a choice choice choice (ownerAt a u) u)) (size a)
+    (λ v l. ap not (true-is (legalAs a choice choice choice (ownerAt a v) v) (legal-test a choice choice choice (ownerAt a v) v .1 (legal v l)))))
+  where
+    true-is : (b : Bool) → T b → b ≡ true
+    true-is true h = refl
+    true-is false h = absurd h
+
+-- the rounds of the restricted arena are the worths
+pub restricted-rounds-are-worths : (a : Arena) (wf : WellFormed a) (choice : ℕ → Value) (legal : Legal a choice) (v : ℕ) → v < size a
+    → WorthIs a (positional a choice legal) v (roundValue (restricted a choice) v)
+unfolding restricted
+restricted-rounds-are-worths a wf choice legal v l =
+    restricted-value-is-worth a choice wf legal v (roundValue (restricted a choice) v) .0
+    (rounds-give-the-values (restricted a choice) (restricted-is-well-formed a choice wf legal) v l)
+
+pub worths-fit : (a : Arena) (wf : WellFormed a) (choice : ℕ → Value) (legal : Legal a choice) → size a ≤ 512 → (v : ℕ) → Fits (roundValue (restricted a choice) v)
+unfolding restricted
+worths-fit a wf choice legal few v = round-value-fits (restricted a choice) (restricted-is-well-formed a choice wf legal) few v
+
+-- The answers over rows
+
+module _ {n m : ℕ} {owners marks costs froms tos choices worths : List ℕ} (small : n ≤ 512) where
+  module _ {flags : List ℕ} (marked : Marked n (numberAt froms) (isChosen costs froms tos choices) (λ v. bit) m flags) where
+    pub weighed-illegal : not (someBelow (λ v. not (isLegal owners choices flags v)) n) ≡ false → RowsWeighed n m owners marks costs froms tos choices worths worths false
+    weighed-illegal e =
+        record {
+          answer = λ a d. sym e ∙ legal-row-is a n m owners costs froms tos choices small d flags marked;
+          taken = λ a d marked f. let z : _≡_ {A = ℕ} 0 1 = cc in absurd (omega arith);
+          refused = λ f. refl;
+        }
+
+    pub weighed-legal : {worths′ : List ℕ} → not (someBelow (λ v. not (isLegal owners choices flags v)) n) ≡ true
+        → RestrictedSolved n m owners marks costs froms tos choices worths worths′ → length worths′ ≡ length worths
+        → RowsWeighed n m owners marks costs froms tos choices worths worths′ true
+    weighed-legal {worths′} e solved same =
+        record {
+          answer = λ a d. sym e ∙ legal-row-is a n m owners costs froms tos choices small d flags marked;
+          taken = λ a d marks f. worth-row a d marks;
+          refused = λ f. let z : _≡_ {A = ℕ} 0 1 = cc in absurd (omega arith);
+        }
+      where
+        worth-row : (a : Arena) → Decoded a n m owners costs froms tos → RowIs marks n (λ v. positionAt a v .mark) → WorthRow a n choices worths worths′
+        worth-row a d marks =
+            let c = rowValue choices in
+            let legal : Legal a c = legal-row-sound a c (rw (d .positions) (sym (legal-row-is a n m owners costs froms tos choices small d flags marked) ∙ e)) in
+            let row = solved .rows a d marks legal in
+            let p = d .positions in
+            record {
+              legal = legal;
+              worth = λ v l.
+                  subst (λ (x : Value). WorthIs a (positional a c legal) v x)
+                  (sym (ap valueOf (row v l) ∙ value-of-number (roundValue (restricted a c) v) (worths-fit a (d .well) c legal (omega arith) v)))
+                  (restricted-rounds-are-worths a (d .well) c legal v (omega arith));
+              row = record { row = row; rest = solved .stay; same-length = same };
+            }
+
+-- copied moves are within their rows
+pub copied-within : {n m count : ℕ} {owners costs froms tos choices costs′ froms′ tos′ : List ℕ} → Within n m costs froms tos
+    → Copied owners costs froms tos choices m count costs′ froms′ tos′ → count ≤ length costs′ → count ≤ length froms′ → count ≤ length tos′
+    → Within n count costs′ froms′ tos′
+copied-within {n} {m} {owners} {costs} {froms} {tos} {choices} w copied lc lf lt =
+    let q = moveStays owners costs froms tos choices in
+    let e = copied .counted in
+    record {
+      costs-row = lc;
+      froms-row = lf;
+      tos-row = lt;
+      from-inside = λ j l. rw (copied .from j (omega arith)) (w .from-inside (getD (passing q m) j 0) (passing-below q m j (omega arith)));
+      to-inside = λ j l. rw (copied .to j (omega arith)) (w .to-inside (getD (passing q m) j 0) (passing-below q m j (omega arith)));
+    }
+
+-- no more moves stay than there are
+pub copied-fewer : {m count : ℕ} {owners costs froms tos choices costs′ froms′ tos′ : List ℕ} → Copied owners costs froms tos choices m count costs′ froms′ tos′ → count ≤ m
+copied-fewer {m} {owners} {costs} {froms} {tos} {choices} copied = let e = copied .counted in let b = passing-length (moveStays owners costs froms tos choices) m in omega arith
+
+pub restricted-solved : {n m count : ℕ} {owners marks costs froms tos choices costs′ froms′ tos′ worths worths′ steps steps′ : List ℕ} → n ≤ 512
+    → Copied owners costs froms tos choices m count costs′ froms′ tos′ → Solved n count owners marks costs′ froms′ tos′ worths steps worths′ steps′
+    → RestrictedSolved n m owners marks costs froms tos choices worths worths′
+restricted-solved {n} {m} {count} {owners} {costs} {froms} {tos} {choices} {costs′} {froms′} {tos′} small copied solved =
+    record {
+      rows = λ a d marks legal. solved-worths a n m owners costs froms tos choices small d count costs′ froms′ tos′ copied marks legal solved;
+      stay = solved .values-stay;
+    }
+
+-- The answers of the job
+
+module _ {text choices worths : List ℕ} where
+  pub weighed-refused : {r : Refusal} → examined text ≡ Refused r → WeighedIs text choices worths worths (Turned r)
+  unfolding weighed weighedBy
+  weighed-refused e =
+      record { answer = rw e; taken = λ z. let w : _≡_ {A = ℕ} 0 1 = cc in absurd (omega arith); refused = λ h. refl }
+
+  pub weighed-short : {chart : Chart} → examined text ≡ Accepted chart → (leb (chart .positions) (length choices) && leb (chart .positions) (length worths)) ≡ false
+      → WeighedIs text choices worths worths Short
+  unfolding weighed weighedBy
+  weighed-short e short =
+      record { answer = rw (e, short); taken = λ z. let w : _≡_ {A = ℕ} 0 1 = cc in absurd (omega arith); refused = λ h. refl }
+
+  module _ {chart : Chart} {m : ℕ} {owners marks costs froms tos worths′ : List ℕ} {r : Bool} (e : examined text ≡ Accepted chart)
+      (room : (leb (chart .positions) (length choices) && leb (chart .positions) (length worths)) ≡ true)
+      (d : Decoded (arenaOf text) (chart .positions) m owners costs froms tos) (marked : RowIs marks (chart .positions) (λ v. positionAt (arenaOf text) v .mark))
+      (weighing : RowsWeighed (chart .positions) m owners marks costs froms tos choices worths worths′ r) where
+    pub weighed-taken : r ≡ true → WeighedIs text choices worths worths′ Done
+    unfolding weighed weighedBy
+    weighed-taken fact =
+        let n = accepted-size text chart e in
+        let fair : legalRow (arenaOf text) (rowValue choices) (size (arenaOf text)) ≡ true = rw n (sym (weighing .answer (arenaOf text) d) ∙ fact) in
+        record {
+          answer = rw (e, room, fair);
+          taken = λ z. rw n (weighing .taken (arenaOf text) d marked fact);
+          refused = λ h. absurd (h refl);
+        }
+
+    pub weighed-unfair : r ≡ false → WeighedIs text choices worths worths′ Choice
+    unfolding weighed weighedBy
+    weighed-unfair fact =
+        let n = accepted-size text chart e in
+        let unfair : legalRow (arenaOf text) (rowValue choices) (size (arenaOf text)) ≡ false = rw n (sym (weighing .answer (arenaOf text) d) ∙ fact) in
+        record {
+          answer = rw (e, room, unfair);
+          taken = λ z. let w : _≡_ {A = ℕ} 0 1 = cc in absurd (omega arith);
+          refused = λ h. weighing .refused fact;
+        }
