@@ -100,7 +100,7 @@ typedef struct {
 typedef struct {
     dushemqa_refusal refusal;
     bool agree;      /* the plate's values and the worths are the same at every position */
-    size_t position; /* the first position where they differ; with it the plate's value and the worth there */
+    size_t position; /* the first position where they differ, with the plate's value and the worth there; all 0 if they agree */
     uint16_t value;
     uint16_t worth;
 } dushemqa_compared;
