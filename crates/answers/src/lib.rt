@@ -1,12 +1,13 @@
 // The jobs' answers as C has them: numbers in structs that lie as C's do.
+ghost use mathlib.Core.Bool.{true, false};
 ghost use mathlib.Core.Path.{_≡_};
-ghost use Rattle.answers.specs.Numbers.{answerNumbers, comparedAs, comparedNumbers, notStarted, readingNumbers, refusedBy, refusedStep, reportedNumbers, startedNumbers, valuedNumbers, weighedNumbers, writtenNumbers};
+ghost use Rattle.audit.specs.Checking.{numbersFrom};
+ghost use Rattle.answers.specs.Numbers.{answerNumbers, comparedAs, comparedNumbers, noSummary, notStarted, readingAs, readingNumbers, refusedStep, reportedNumbers, startedNumbers, taken, valuedAs, valuedNumbers, weighedNumbers, writtenAs, writtenNumbers};
 use audit::Numbers;
 use audit::numbers_of;
 use choice::summary::Summary;
 use compare::Compared;
 use plate::reading::Reading;
-use refusal::Refusal;
 use run::Advice;
 use run::Answer;
 use run::Reported;
@@ -51,13 +52,6 @@ pub struct Step {
     pub advice: Advice,
 }
 
-// A chart's refusal.
-fn refused_by(r: Refusal) -> Numbers
-    ensures { λ x. ⌜ x ≡ refusedBy r ⌝ }
-{
-    numbers_of(r.number(), r.line(), 0, 0)
-}
-
 pub fn valued_numbers(answer: Valued) -> ValuedNumbers
     ensures { λ r. ⌜ r ≡ valuedNumbers answer ⌝ }
 {
@@ -66,14 +60,17 @@ pub fn valued_numbers(answer: Valued) -> ValuedNumbers
             refusal: numbers_of(0, 0, 0, 0),
             rounds,
         },
-        Valued::Refused(r) => ValuedNumbers {
-            refusal: refused_by(r),
-            rounds: 0,
-        },
-        Valued::Short => ValuedNumbers {
-            refusal: numbers_of(10, 0, 0, 0),
-            rounds: 0,
-        },
+        Valued::Refused(r) => not_valued(r.number(), r.line()),
+        Valued::Short => not_valued(10, 0),
+    }
+}
+
+fn not_valued(number: u32, line: usize) -> ValuedNumbers
+    ensures { λ r. ⌜ r ≡ valuedAs (numbersFrom number line 0 0) 0 ⌝ }
+{
+    ValuedNumbers {
+        refusal: numbers_of(number, line, 0, 0),
+        rounds: 0,
     }
 }
 
@@ -85,41 +82,43 @@ pub fn written_numbers(answer: Written) -> WrittenNumbers
             refusal: numbers_of(0, 0, 0, 0),
             length,
         },
-        Written::Refused(r) => WrittenNumbers {
-            refusal: refused_by(r),
-            length: 0,
-        },
-        Written::Short => WrittenNumbers {
-            refusal: numbers_of(10, 0, 0, 0),
-            length: 0,
-        },
+        Written::Refused(r) => not_written(r.number(), r.line()),
+        Written::Short => not_written(10, 0),
+    }
+}
+
+fn not_written(number: u32, line: usize) -> WrittenNumbers
+    ensures { λ r. ⌜ r ≡ writtenAs (numbersFrom number line 0 0) 0 ⌝ }
+{
+    WrittenNumbers {
+        refusal: numbers_of(number, line, 0, 0),
+        length: 0,
     }
 }
 
 pub fn reading_numbers(answer: Reading) -> ReadingNumbers
     ensures { λ r. ⌜ r ≡ readingNumbers answer ⌝ }
 {
-    let none = Summary {
-        rounds: 0,
-        highest: 0,
-        evers: 0,
-    };
     match answer {
         Reading::Rows(summary) => ReadingNumbers {
             refusal: numbers_of(0, 0, 0, 0),
             summary,
         },
-        Reading::Refused(r) => ReadingNumbers {
-            refusal: refused_by(r),
-            summary: none,
-        },
-        Reading::Short => ReadingNumbers {
-            refusal: numbers_of(10, 0, 0, 0),
-            summary: none,
-        },
-        Reading::Malformed(line) => ReadingNumbers {
-            refusal: numbers_of(11, line, 0, 0),
-            summary: none,
+        Reading::Refused(r) => not_read(r.number(), r.line()),
+        Reading::Short => not_read(10, 0),
+        Reading::Malformed(line) => not_read(11, line),
+    }
+}
+
+fn not_read(number: u32, line: usize) -> ReadingNumbers
+    ensures { λ r. ⌜ r ≡ readingAs (numbersFrom number line 0 0) noSummary ⌝ }
+{
+    ReadingNumbers {
+        refusal: numbers_of(number, line, 0, 0),
+        summary: Summary {
+            rounds: 0,
+            highest: 0,
+            evers: 0,
         },
     }
 }
@@ -129,7 +128,7 @@ pub fn weighed_numbers(answer: Weighed) -> Numbers
 {
     match answer {
         Weighed::Done => numbers_of(0, 0, 0, 0),
-        Weighed::Refused(r) => refused_by(r),
+        Weighed::Refused(r) => numbers_of(r.number(), r.line(), 0, 0),
         Weighed::Short => numbers_of(10, 0, 0, 0),
         Weighed::Choice => numbers_of(12, 0, 0, 0),
     }
@@ -139,7 +138,7 @@ pub fn compared_numbers(answer: Compared) -> ComparedNumbers
     ensures { λ r. ⌜ r ≡ comparedNumbers answer ⌝ }
 {
     match answer {
-        Compared::Agree => compared_as(numbers_of(0, 0, 0, 0), true),
+        Compared::Agree => agreed(),
         Compared::Differ(position, value, worth) => ComparedNumbers {
             refusal: numbers_of(0, 0, 0, 0),
             agree: false,
@@ -147,21 +146,32 @@ pub fn compared_numbers(answer: Compared) -> ComparedNumbers
             value,
             worth,
         },
-        Compared::Refused(r) => compared_as(refused_by(r), false),
-        Compared::Short => compared_as(numbers_of(10, 0, 0, 0), false),
-        Compared::Form(line) => compared_as(numbers_of(11, line, 0, 0), false),
-        Compared::Choice => compared_as(numbers_of(12, 0, 0, 0), false),
-        Compared::Fault(v, condition) => compared_as(numbers_of(14, 0, v, condition), false),
+        Compared::Refused(r) => not_compared(r.number(), r.line(), 0, 0),
+        Compared::Short => not_compared(10, 0, 0, 0),
+        Compared::Form(line) => not_compared(11, line, 0, 0),
+        Compared::Choice => not_compared(12, 0, 0, 0),
+        Compared::Fault(v, condition) => not_compared(14, 0, v, condition),
     }
 }
 
-// Where no difference was found.
-fn compared_as(refusal: Numbers, agree: bool) -> ComparedNumbers
-    ensures { λ r. ⌜ r ≡ comparedAs refusal agree ⌝ }
+fn agreed() -> ComparedNumbers
+    ensures { λ r. ⌜ r ≡ comparedAs taken true ⌝ }
 {
     ComparedNumbers {
-        refusal,
-        agree,
+        refusal: numbers_of(0, 0, 0, 0),
+        agree: true,
+        position: 0,
+        value: 0,
+        worth: 0,
+    }
+}
+
+fn not_compared(number: u32, line: usize, position: usize, condition: u8) -> ComparedNumbers
+    ensures { λ r. ⌜ r ≡ comparedAs (numbersFrom number line position condition) false ⌝ }
+{
+    ComparedNumbers {
+        refusal: numbers_of(number, line, position, condition),
+        agree: false,
         position: 0,
         value: 0,
         worth: 0,
@@ -177,10 +187,25 @@ pub fn started_numbers(answer: Started) -> Step
             run,
             advice,
         },
-        Started::Refused(r) => not_started(refused_by(r)),
-        Started::Form(line) => not_started(numbers_of(11, line, 0, 0)),
-        Started::Position => not_started(numbers_of(13, 0, 0, 0)),
-        Started::Fault(v, condition) => not_started(numbers_of(14, 0, v, condition)),
+        Started::Refused(r) => not_started(r.number(), r.line(), 0, 0),
+        Started::Form(line) => not_started(11, line, 0, 0),
+        Started::Position => not_started(13, 0, 0, 0),
+        Started::Fault(v, condition) => not_started(14, 0, v, condition),
+    }
+}
+
+// A refused start has no run: its numbers are 0.
+fn not_started(number: u32, line: usize, position: usize, condition: u8) -> Step
+    ensures { λ r. ⌜ r ≡ notStarted (numbersFrom number line position condition) ⌝ }
+{
+    let run = Run::restored(0, 0, 0);
+    Step {
+        refusal: numbers_of(number, line, position, condition),
+        run,
+        advice: Advice {
+            choice: 0,
+            value: 0,
+        },
     }
 }
 
@@ -201,27 +226,20 @@ fn answer_numbers(run: Run, answer: Answer) -> Step
             run,
             advice,
         },
-        Answer::Refused(r) => refused_step(refused_by(r), run),
-        Answer::Form(line) => refused_step(numbers_of(11, line, 0, 0), run),
-        Answer::Position => refused_step(numbers_of(13, 0, 0, 0), run),
-        Answer::Move => refused_step(numbers_of(15, 0, 0, 0), run),
-        Answer::Count => refused_step(numbers_of(16, 0, 0, 0), run),
+        Answer::Refused(r) => unmoved(run, r.number(), r.line()),
+        Answer::Form(line) => unmoved(run, 11, line),
+        Answer::Position => unmoved(run, 13, 0),
+        Answer::Move => unmoved(run, 15, 0),
+        Answer::Count => unmoved(run, 16, 0),
     }
 }
 
-// A refused start: there is no run, so its numbers are 0.
-fn not_started(refusal: Numbers) -> Step
-    ensures { λ r. ⌜ r ≡ notStarted refusal ⌝ }
-{
-    refused_step(refusal, Run::restored(0, 0, 0))
-}
-
-// A refusal, with the run that comes back.
-fn refused_step(refusal: Numbers, run: Run) -> Step
-    ensures { λ r. ⌜ r ≡ refusedStep refusal run ⌝ }
+// A refused report hands the run back as it was.
+fn unmoved(run: Run, number: u32, line: usize) -> Step
+    ensures { λ r. ⌜ r ≡ refusedStep (numbersFrom number line 0 0) run ⌝ }
 {
     Step {
-        refusal,
+        refusal: numbers_of(number, line, 0, 0),
         run,
         advice: Advice {
             choice: 0,

@@ -1,13 +1,17 @@
 -- `written_numbers` meets its contract: by the answer's case.
 use borrow.Author.Needs.{needs}
-use mathlib.Core.Path.{_∙_, ap, sym}
+use Prim.Native.Nat.{ℕ}
+use mathlib.Core.Path.{_∙_, ap, ap₂, sym}
+use Rattle.audit.specs.Checking.{numbersFrom}
 use Rattle.answers.specs.Numbers.{writtenAs, writtenNumbers}
 use Rattle.answers.proofs.written_numbers.Statement.{statement}
 use Rattle.answers.proofs.written_numbers.Tie as tie
 use Rattle.answers.proofs.written_numbers.Reads as reads
 use Rattle.answers.proofs.written_numbers.Lts as lts
+use Rattle.answers.proofs.not_written.Reads as not-written-reads
 use Rattle.audit.proofs.numbers_of.Reads as numbers-of-reads
-use Rattle.answers.proofs.refused_by.Reads as refused-by-reads
+use Rattle.refusal.proofs.Refusal.line.Reads as line-reads
+use Rattle.refusal.proofs.Refusal.number.Reads as number-reads
 
 enum-known-answer : tie.Need-enum-known-answer
 enum-known-answer c = search needs
@@ -18,23 +22,29 @@ numbers-of-requires c κs = search needs
 enum-known-answer-2 : tie.Need-enum-known-answer-2
 enum-known-answer-2 c = search needs
 
-refused-by-requires : tie.Need-refused-by-requires
-refused-by-requires c κs = search needs
+number-requires : tie.Need-number-requires
+number-requires c κs = search needs
+
+line-requires : tie.Need-line-requires
+line-requires c κs = search needs
+
+not-written-requires : tie.Need-not-written-requires
+not-written-requires c κs = search needs
 
 enum-told : tie.Need-enum-told
 enum-told c = search needs
 
-numbers-of-requires-2 : tie.Need-numbers-of-requires-2
-numbers-of-requires-2 c κs = search needs
+not-written-requires-2 : tie.Need-not-written-requires-2
+not-written-requires-2 c κs = search needs
 
 returns : tie.Need-returns
 returns c = ap (λ n. writtenAs n (c .before .before .answer .given .0 .0)) (c .numbers-of .ensures) ∙ ap writtenNumbers (sym (c .before .before .answer .given .1))
 
 returns-2 : tie.Need-returns-2
-returns-2 c = ap (λ n. writtenAs n 0) (c .refused-by .ensures) ∙ ap writtenNumbers (sym (c .before .before .answer2 .given .1))
+returns-2 c = c .not-written .ensures ∙ ap₂ (λ (n l : ℕ). writtenAs (numbersFrom n l 0 0) 0) (c .before .before .number .ensures) (c .before .line .ensures) ∙ ap writtenNumbers (sym (c .before .before .before .before .answer2 .given .1))
 
 returns-3 : tie.Need-returns-3
-returns-3 c = ap (λ n. writtenAs n 0) (c .numbers-of2 .ensures) ∙ ap writtenNumbers (sym (c .before .enum-told .given .1))
+returns-3 c = c .not-written2 .ensures ∙ ap writtenNumbers (sym (c .before .enum-told .given .1))
 
 pub written-numbers-spec : {M : Type 1} → statement M
 written-numbers-spec =
@@ -43,9 +53,11 @@ written-numbers-spec =
     enum-known-answer
     numbers-of-requires
     enum-known-answer-2
-    refused-by-requires
+    number-requires
+    line-requires
+    not-written-requires
     enum-told
-    numbers-of-requires-2
+    not-written-requires-2
     returns
     returns-2
     returns-3)
