@@ -77,6 +77,31 @@ fn show_document(name: &[u8], plate: &[u8], choices: &[u16]) {
     );
 }
 
+// Document 01's chart with its plate, with a plate that has `v` for `V` at position 3, and with one that reads 3 at position 0.
+fn show_right(name: &[u8], choices: &[u16]) {
+    show_document(
+        name,
+        b"P    5    4    2    1\nV    0    2    1    0\nV    1    2    -    1\nV    2    1    0    0\nV    3    0    -    0\nV    4 ever    4    -\n",
+        choices,
+    );
+}
+
+fn show_malformed(name: &[u8], choices: &[u16]) {
+    show_document(
+        name,
+        b"P    5    4    2    1\nV    0    2    1    0\nV    1    2    -    1\nV    2    1    0    0\nv    3    0    -    0\nV    4 ever    4    -\n",
+        choices,
+    );
+}
+
+fn show_faulty(name: &[u8], choices: &[u16]) {
+    show_document(
+        name,
+        b"P    5    4    2    1\nV    0    3    1    0\nV    1    2    -    1\nV    2    1    0    0\nV    3    0    -    0\nV    4 ever    4    -\n",
+        choices,
+    );
+}
+
 fn document_chart() {
     let name = b"document 01's chart";
     let text =
@@ -183,122 +208,70 @@ fn last_choice() {
 }
 
 fn refused_charts() {
-    let choices = [0u16; 1];
-    show(b"1: the empty text", b"", b"", &choices);
-    show(b"2: a leading zero", b"H   05    8\n", b"", &choices);
-    show(b"3: no position", b"H    0    1\n", b"", &choices);
-    show(b"4: only a header", b"H    1    1\n", b"", &choices);
-    show(
-        b"5: mark 2",
-        b"H    1    1\nO    0    2\nM    0    0\n",
-        b"",
-        &choices,
-    );
-    show(
+    refused(b"1: the empty text", b"");
+    refused(b"2: a leading zero", b"H   05    8\n");
+    refused(b"3: no position", b"H    0    1\n");
+    refused(b"4: only a header", b"H    1    1\n");
+    refused(b"5: mark 2", b"H    1    1\nO    0    2\nM    0    0\n");
+    refused(
         b"6: a move to 1 with n = 1",
         b"H    1    1\nO    0    0\nM    0    1\n",
-        b"",
-        &choices,
     );
-    show(
+    refused(
         b"7: a disturbance from L",
         b"H    1    1\nL    0    0\nD    0    0\n",
-        b"",
-        &choices,
     );
-    show(
+    refused(
         b"8: the same move twice",
         b"H    1    2\nO    0    0\nM    0    0\nM    0    0\n",
-        b"",
-        &choices,
     );
-    show(
+    refused(
         b"9: only a disturbance",
         b"H    1    1\nO    0    0\nD    0    0\n",
-        b"",
-        &choices,
     );
+}
+
+// A chart that every job refuses, whatever is lent with it.
+fn refused(name: &[u8], text: &[u8]) {
+    let choices = [0u16; 1];
+    show(name, text, b"", &choices);
 }
 
 fn short_row() {
     let row0 = [1u16, 65535, 0, 65535];
-    show_document(
-        b"10: four choices for five positions",
-        b"P    5    4    2    1\nV    0    2    1    0\nV    1    2    -    1\nV    2    1    0    0\nV    3    0    -    0\nV    4 ever    4    -\n",
-        &row0,
-    );
+    show_right(b"10: four choices for five positions", &row0);
 }
 
 fn form() {
     let row0 = [1u16, 65535, 0, 65535, 4];
-    show_document(
-        b"11: v for V at position 3",
-        b"P    5    4    2    1\nV    0    2    1    0\nV    1    2    -    1\nV    2    1    0    0\nv    3    0    -    0\nV    4 ever    4    -\n",
-        &row0,
-    );
+    show_malformed(b"11: v for V at position 3", &row0);
     let row1 = [1u16, 65535, 0, 65535, 4];
     show_document(b"11: an empty plate", b"", &row1);
 }
 
 fn choices() {
     let row0 = [3u16, 65535, 0, 65535, 4];
-    show_document(
-        b"12: choice 3 at 0",
-        b"P    5    4    2    1\nV    0    2    1    0\nV    1    2    -    1\nV    2    1    0    0\nV    3    0    -    0\nV    4 ever    4    -\n",
-        &row0,
-    );
+    show_right(b"12: choice 3 at 0", &row0);
     let row1 = [2u16, 65535, 0, 65535, 4];
-    show_document(
-        b"12: choice 2 at 0, a disturbance's target",
-        b"P    5    4    2    1\nV    0    2    1    0\nV    1    2    -    1\nV    2    1    0    0\nV    3    0    -    0\nV    4 ever    4    -\n",
-        &row1,
-    );
+    show_right(b"12: choice 2 at 0, a disturbance's target", &row1);
     let row2 = [1u16, 0, 0, 65535, 4];
-    show_document(
-        b"12: choice 0 at 1, L",
-        b"P    5    4    2    1\nV    0    2    1    0\nV    1    2    -    1\nV    2    1    0    0\nV    3    0    -    0\nV    4 ever    4    -\n",
-        &row2,
-    );
+    show_right(b"12: choice 0 at 1, L", &row2);
     let row3 = [1u16, 65535, 0, 3, 4];
-    show_document(
-        b"12: choice 3 at 3, unsafe",
-        b"P    5    4    2    1\nV    0    2    1    0\nV    1    2    -    1\nV    2    1    0    0\nV    3    0    -    0\nV    4 ever    4    -\n",
-        &row3,
-    );
+    show_right(b"12: choice 3 at 3, unsafe", &row3);
 }
 
 fn fault() {
     let row0 = [1u16, 65535, 0, 65535, 4];
-    show_document(
-        b"14: value 3 at 0",
-        b"P    5    4    2    1\nV    0    3    1    0\nV    1    2    -    1\nV    2    1    0    0\nV    3    0    -    0\nV    4 ever    4    -\n",
-        &row0,
-    );
+    show_faulty(b"14: value 3 at 0", &row0);
 }
 
 fn order() {
     let row0 = [1u16, 65535, 0, 65535];
-    show_document(
-        b"10 before 11",
-        b"P    5    4    2    1\nV    0    2    1    0\nV    1    2    -    1\nV    2    1    0    0\nv    3    0    -    0\nV    4 ever    4    -\n",
-        &row0,
-    );
+    show_malformed(b"10 before 11", &row0);
     let row1 = [3u16, 65535, 0, 65535, 4];
-    show_document(
-        b"11 before 12",
-        b"P    5    4    2    1\nV    0    2    1    0\nV    1    2    -    1\nV    2    1    0    0\nv    3    0    -    0\nV    4 ever    4    -\n",
-        &row1,
-    );
+    show_malformed(b"11 before 12", &row1);
     let row2 = [3u16, 65535, 0, 65535, 4];
-    show_document(
-        b"12 before 14",
-        b"P    5    4    2    1\nV    0    3    1    0\nV    1    2    -    1\nV    2    1    0    0\nV    3    0    -    0\nV    4 ever    4    -\n",
-        &row2,
-    );
+    show_faulty(b"12 before 14", &row2);
     let row3 = [1u16, 65535, 0, 65535];
-    show_document(
-        b"10 before 14",
-        b"P    5    4    2    1\nV    0    3    1    0\nV    1    2    -    1\nV    2    1    0    0\nV    3    0    -    0\nV    4 ever    4    -\n",
-        &row3,
-    );
+    show_faulty(b"10 before 14", &row3);
 }

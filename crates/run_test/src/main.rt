@@ -282,56 +282,63 @@ fn refused_reports(at0: Run, chart: &[u8], plate: &[u8]) {
 
 // Plates of the form that are wrong: a start refuses them, a report takes them.
 fn wrong_plates() {
-    let chart =
-        b"H    3    5\nO    0    0\nL    1    0\nL    2    0\nM    0    1\nM    0    2\nD    0    2\nM    1    1\nM    2    2\n";
-    let high =
-        b"P    3    0    -    3\nV    0    3    1    0\nV    1 ever    -    -\nV    2    7    -    9\n";
-    start(b"14: a plate of the form, wrong", chart, high, 0);
-    report(b"a report takes it", Run::restored(0, 0, 3), chart, high, 1);
-    report(
-        b"a disturbance that is a meant target too",
-        Run::restored(0, 0, 3),
-        chart,
-        high,
-        2,
+    wrong_values(
+        b"P    3    0    -    3\nV    0    3    1    0\nV    1 ever    -    -\nV    2    7    -    9\n",
     );
-    let itself =
-        b"P    3    0    -    3\nV    0 ever    0    -\nV    1 ever    -    -\nV    2 ever    -    -\n";
-    start(b"14: the choice is no meant target", chart, itself, 0);
-    report(
-        b"15: the choice, no meant target and no D",
-        Run::restored(0, 0, 3),
-        chart,
-        itself,
-        0,
+    wrong_choice(
+        b"P    3    0    -    3\nV    0 ever    0    -\nV    1 ever    -    -\nV    2 ever    -    -\n",
     );
-    report(
-        b"15: a meant target, neither the choice nor a D",
-        Run::restored(0, 0, 3),
-        chart,
-        itself,
-        1,
+    no_choice(
+        b"P    3    0    -    3\nV    0 ever    -    -\nV    1 ever    2    -\nV    2 ever    -    -\n",
     );
-    let dash =
-        b"P    3    0    -    3\nV    0 ever    -    -\nV    1 ever    2    -\nV    2 ever    -    -\n";
-    report(b"15: no choice", Run::restored(0, 0, 3), chart, dash, 1);
-    report(
-        b"at the lane's the choice is not asked",
-        Run::restored(1, 0, 3),
-        chart,
-        dash,
-        1,
-    );
-    let only =
-        b"H    3    4\nO    0    0\nL    1    0\nL    2    0\nM    0    1\nD    0    2\nM    1    1\nM    2    2\n";
-    let other =
-        b"P    3    0    -    3\nV    0 ever    2    -\nV    1 ever    -    -\nV    2 ever    -    -\n";
     report(
         b"the choice, no meant target: its D counts",
         Run::restored(0, 0, 3),
-        only,
-        other,
+        b"H    3    4\nO    0    0\nL    1    0\nL    2    0\nM    0    1\nD    0    2\nM    1    1\nM    2    2\n",
+        b"P    3    0    -    3\nV    0 ever    2    -\nV    1 ever    -    -\nV    2 ever    -    -\n",
         2,
+    );
+}
+
+fn wrong_values(plate: &[u8]) {
+    wrong_start(b"14: a plate of the form, wrong", plate);
+    wrong_report(b"a report takes it", plate, 0, 1);
+    wrong_report(b"a disturbance that is a meant target too", plate, 0, 2);
+}
+
+fn wrong_choice(plate: &[u8]) {
+    wrong_start(b"14: the choice is no meant target", plate);
+    wrong_report(b"15: the choice, no meant target and no D", plate, 0, 0);
+    wrong_report(
+        b"15: a meant target, neither the choice nor a D",
+        plate,
+        0,
+        1,
+    );
+}
+
+fn no_choice(plate: &[u8]) {
+    wrong_report(b"15: no choice", plate, 0, 1);
+    wrong_report(b"at the lane's the choice is not asked", plate, 1, 1);
+}
+
+// A start and a report on one chart with a plate that is not its own.
+fn wrong_start(name: &[u8], plate: &[u8]) {
+    start(
+        name,
+        b"H    3    5\nO    0    0\nL    1    0\nL    2    0\nM    0    1\nM    0    2\nD    0    2\nM    1    1\nM    2    2\n",
+        plate,
+        0,
+    );
+}
+
+fn wrong_report(name: &[u8], plate: &[u8], from: usize, to: usize) {
+    report(
+        name,
+        Run::restored(from, 0, 3),
+        b"H    3    5\nO    0    0\nL    1    0\nL    2    0\nM    0    1\nM    0    2\nD    0    2\nM    1    1\nM    2    2\n",
+        plate,
+        to,
     );
 }
 

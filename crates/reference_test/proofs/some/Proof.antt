@@ -1,0 +1,58 @@
+-- `reference_test::some` is safe and ends: it counts `i` up to `charts`.
+use Prim.Native.Nat.{_-_, _≤_}
+use borrow.Author.Needs.{needs}
+use Rattle.reference_test.proofs.some.Statement.{statement}
+use Rattle.reference_test.proofs.some.Tie as tie
+
+abbrev Inv-loop : tie.InvT-loop
+Inv-loop name kind charts tally₀ seed₀ i₀ t7 tally seed i = i ≤ charts
+
+abbrev μ-loop : tie.MeasureT-loop
+μ-loop name kind charts tally₀ seed₀ i₀ t7 tally seed i = charts - i
+
+loop-holds : tie.Need-loop-holds Inv-loop μ-loop
+loop-holds c = search needs
+
+compare-built-requires : tie.Need-compare-built-requires Inv-loop μ-loop
+compare-built-requires c κs = search needs
+
+add-i : tie.Need-add-i Inv-loop μ-loop
+add-i c = search needs
+
+loop-less : tie.Need-loop-less Inv-loop μ-loop
+loop-less c = search needs
+
+loop-again : tie.Need-loop-again Inv-loop μ-loop
+loop-again c = search needs
+
+report-requires : tie.Need-report-requires Inv-loop μ-loop
+report-requires c κs = search needs
+
+write-all-requires : tie.Need-write-all-requires Inv-loop μ-loop
+write-all-requires c κs = search needs
+
+slice-aggregate-write-all : tie.Need-slice-aggregate-write-all Inv-loop μ-loop
+slice-aggregate-write-all c = search needs
+
+write-all-requires-2 : tie.Need-write-all-requires-2 Inv-loop μ-loop
+write-all-requires-2 c κs = search needs
+
+returns : tie.Need-returns Inv-loop μ-loop
+returns c = search needs
+
+pub some-spec : {M : Type 1} → statement M
+some-spec =
+    tie.close
+    (tie.spec
+    Inv-loop
+    μ-loop
+    loop-holds
+    compare-built-requires
+    add-i
+    loop-less
+    loop-again
+    report-requires
+    write-all-requires
+    slice-aggregate-write-all
+    write-all-requires-2
+    returns)

@@ -1,0 +1,443 @@
+// Holds the library's jobs against the definitions, chart by chart, and counts. Lent rows and buffers are filled before, so that what
+// lies past the last position or line is seen to stay.
+use crate::checker::Fault;
+use crate::checker::first_fault;
+use crate::definition::solve;
+use crate::definition::target;
+use crate::definition::weigh_choices;
+use crate::generate::below;
+use crate::sheet::CHOICE;
+use crate::sheet::COUNTS;
+use crate::sheet::Chart;
+use crate::sheet::HEADER;
+use crate::sheet::LANE;
+use crate::sheet::MEANT;
+use crate::sheet::NONE;
+use crate::sheet::RIGHT;
+use crate::sheet::STEP;
+use crate::sheet::Table;
+use crate::sheet::VALUE;
+use crate::sheet::WORTH;
+use crate::sheet::cell;
+use crate::sheet::get;
+use crate::sheet::owner;
+use crate::sheet::positions;
+use crate::sheet::put;
+use crate::text::Page;
+use crate::text::part;
+use crate::text::write_chart;
+use crate::text::write_plate;
+use audit::Numbers;
+use plate::reading::Reading;
+use plate::reading::read_plate;
+use value::valuing::Valued;
+use value::valuing::value_chart;
+use weighing::Weighed;
+use weighing::weigh_chart;
+use writing::Written;
+
+// What was counted, in the order in which it is written. Plates that were refused are counted by the condition.
+pub type Tally = [usize; 15];
+
+const CHARTS: usize = 0;
+
+const POSITIONS: usize = 1;
+
+const MOVES: usize = 2;
+
+const ROUNDS: usize = 3;
+
+const CHECKSUM: usize = 5;
+
+const CONTROLLERS: usize = 6;
+
+const ACCEPTED: usize = 7;
+
+const MISMATCHES: usize = 14;
+
+// What lent rows are filled with.
+const FILLED: usize = 4660;
+
+fn add(tally: &mut Tally, k: usize, x: usize) {
+    tally[k % 15] = tally[k % 15] % 1000000000 + x % 1000000000;
+}
+
+// Counts a comparison that failed, and shows its chart; only the first few are shown.
+fn expect(ok: bool, name: &[u8], text: &[u8], tally: &mut Tally) {
+    if ok {
+        return;
+    }
+    add(tally, MISMATCHES, 1);
+    if tally[14] < 9 {
+        io::write_all(1, name);
+        io::write_all(1, b": not by the definitions\n");
+        io::write_all(1, text);
+    }
+}
+
+fn wide(x: u16) -> usize {
+    x as usize
+}
+
+// A lent row has a column's first n entries, and the rest of it stayed.
+fn same_row(table: &Table, column: usize, n: usize, row: &[u16; 512]) -> bool {
+    let mut v: usize = 0;
+    while v < 512 {
+        let x = if v < n { get(table, column, v) } else { FILLED };
+        if wide(row[v]) != x {
+            return false;
+        }
+        v += 1;
+    }
+    true
+}
+
+fn same_rows(
+    table: &Table,
+    n: usize,
+    values: &[u16; 512],
+    choices: &[u16; 512],
+    steps: &[u16; 512],
+) -> bool {
+    if !same_row(table, VALUE, n, values) {
+        return false;
+    }
+    if !same_row(table, CHOICE, n, choices) {
+        return false;
+    }
+    same_row(table, STEP, n, steps)
+}
+
+fn same_pages(a: &Page, b: &Page) -> bool {
+    let mut i: usize = 0;
+    while i < 65536 {
+        if a[i] != b[i] {
+            return false;
+        }
+        i += 1;
+    }
+    true
+}
+
+// All comparisons of one chart.
+pub fn compare_chart(chart: &Chart, seed: &mut usize, tally: &mut Tally) {
+    let mut page = [b'#'; 65536];
+    let size = write_chart(&mut page, chart);
+    let mut table = [0usize; 4096];
+    solve(chart, &mut table);
+    count_chart(chart, &table, tally);
+    compare_jobs(chart, &table, part(&page, size), seed, tally);
+}
+
+fn count_chart(chart: &Chart, table: &Table, tally: &mut Tally) {
+    let n = positions(chart);
+    add(tally, CHARTS, 1);
+    add(tally, POSITIONS, n);
+    add(tally, MOVES, cell(chart, RIGHT, 0));
+    add(tally, ROUNDS, get(table, HEADER, 0));
+    add(tally, CHECKSUM, checksum(table, n));
+    let highest = get(table, HEADER, 1);
+    if highest != NONE {
+        if tally[4] < highest {
+            tally[4] = highest;
+        }
+    }
+}
+
+// A number that changes with the values, the choices and the steps.
+fn checksum(table: &Table, n: usize) -> usize {
+    let mut sum = 0;
+    let mut v = 0;
+    while v < n {
+        let more = get(table, VALUE, v) % 65536 * 7 + get(table, CHOICE, v) % 65536 * 5;
+        sum = (sum % 1000003 * 31 + more + get(table, STEP, v) % 65536) % 1000003;
+        v += 1;
+    }
+    sum
+}
+
+fn compare_jobs(chart: &Chart, table: &Table, text: &[u8], seed: &mut usize, tally: &mut Tally) {
+    compare_values(chart, table, text, tally);
+    compare_plate(chart, table, text, tally);
+    compare_check(chart, table, text, tally);
+    change_plates(chart, table, text, turns_of(positions(chart)), seed, tally);
+    weigh_controllers(chart, text, seed, tally);
+}
+
+// Valuing: three rows and the rounds.
+fn compare_values(chart: &Chart, table: &Table, text: &[u8], tally: &mut Tally) {
+    let n = positions(chart);
+    let mut values = [4660u16; 512];
+    let mut choices = [4660u16; 512];
+    let mut steps = [4660u16; 512];
+    let rounds = rounds_of(value_chart(text, &mut values, &mut choices, &mut steps));
+    expect(
+        rounds == get(table, HEADER, 0),
+        b"valuing's rounds",
+        text,
+        tally,
+    );
+    expect(
+        same_rows(table, n, &values, &choices, &steps),
+        b"valuing's rows",
+        text,
+        tally,
+    );
+}
+
+// The rounds, or a number that no chart has.
+fn rounds_of(answer: Valued) -> usize {
+    match answer {
+        Valued::Rounds(r) => wide(r),
+        Valued::Refused(_) => 99999,
+        Valued::Short => 99999,
+    }
+}
+
+// Writing: the bytes and the length; then Reading of what was written.
+fn compare_plate(chart: &Chart, table: &Table, text: &[u8], tally: &mut Tally) {
+    let mut page = [b'#'; 65536];
+    let mut written = [b'#'; 65536];
+    let size = write_plate(&mut page, table, positions(chart));
+    let answer = length_of(writing::write_plate(text, &mut written));
+    expect(answer == size, b"writing's length", text, tally);
+    expect(same_pages(&page, &written), b"writing's bytes", text, tally);
+    compare_reading(chart, table, text, part(&written, size), tally);
+}
+
+fn length_of(answer: Written) -> usize {
+    match answer {
+        Written::Length(k) => k,
+        Written::Refused(_) => 99999,
+        Written::Short => 99999,
+    }
+}
+
+// Reading: three rows and the first line's numbers.
+fn compare_reading(chart: &Chart, table: &Table, text: &[u8], plate: &[u8], tally: &mut Tally) {
+    let n = positions(chart);
+    let mut values = [4660u16; 512];
+    let mut choices = [4660u16; 512];
+    let mut steps = [4660u16; 512];
+    let answer = read_plate(text, plate, &mut values, &mut choices, &mut steps);
+    expect(
+        same_header(table, answer),
+        b"reading's first line",
+        text,
+        tally,
+    );
+    expect(
+        same_rows(table, n, &values, &choices, &steps),
+        b"reading's rows",
+        text,
+        tally,
+    );
+}
+
+fn same_header(table: &Table, answer: Reading) -> bool {
+    let Reading::Rows(header) = answer else {
+        return false;
+    };
+    if wide(header.rounds) != get(table, HEADER, 0) {
+        return false;
+    }
+    if wide(header.highest) != get(table, HEADER, 1) {
+        return false;
+    }
+    wide(header.evers) == get(table, HEADER, 2)
+}
+
+// Checking: the plate of a table, good or bad.
+fn compare_check(chart: &Chart, table: &Table, text: &[u8], tally: &mut Tally) {
+    let mut page = [b'#'; 65536];
+    let size = write_plate(&mut page, table, positions(chart));
+    let answer = audit::check(text, part(&page, size)).numbers();
+    let fault = first_fault(chart, table);
+    add(tally, ACCEPTED + fault.condition % 7, 1);
+    expect(
+        same_answer(answer, fault),
+        b"checking's answer",
+        text,
+        tally,
+    );
+}
+
+// Accepted, or 14 with position and condition.
+fn same_answer(answer: Numbers, fault: Fault) -> bool {
+    let number = if fault.condition == 0 { 0 } else { 14 };
+    if answer.number != number {
+        return false;
+    }
+    if answer.line != 0 {
+        return false;
+    }
+    if answer.position != fault.position {
+        return false;
+    }
+    answer.condition as usize == fault.condition
+}
+
+// Plates in which one entry is changed, or two: in a small chart each change of one by itself, and as many of those that are drawn.
+fn turns_of(n: usize) -> usize {
+    if n < 100 { n * 12 + 12 } else { 60 }
+}
+
+fn change_plates(
+    chart: &Chart,
+    table: &Table,
+    text: &[u8],
+    turns: usize,
+    seed: &mut usize,
+    tally: &mut Tally,
+) {
+    let mut i = 0;
+    while i < turns {
+        change_plate(chart, table, text, i, seed, tally);
+        i += 1;
+    }
+}
+
+// The i-th change of one entry; or one that is drawn, and every other time another one.
+fn change_plate(
+    chart: &Chart,
+    table: &Table,
+    text: &[u8],
+    i: usize,
+    seed: &mut usize,
+    tally: &mut Tally,
+) {
+    let n = positions(chart);
+    let codes = n % 1024 * 6 + 6;
+    let mut changed = *table;
+    if i < turns_of(n) / 2 {
+        change(&mut changed, n, i);
+    } else {
+        change(&mut changed, n, below(seed, codes));
+        change(&mut changed, n, i % 2 * 8192 + below(seed, codes) % 8192);
+    }
+    compare_check(chart, &changed, text, tally);
+}
+
+// Two changes of each of the three entries of a line, then of the first line's; none from there on.
+fn change(table: &mut Table, n: usize, code: usize) {
+    let v = code / 6;
+    let column = code / 2 % 3;
+    if v < n {
+        let size = if column == CHOICE { n } else { 512 };
+        let x = turned(get(table, column, v), code % 2, size, NONE);
+        put(table, column, v, x);
+    }
+    if v == n {
+        let most = if column == 1 { NONE } else { 512 };
+        let x = turned(get(table, HEADER, column), code % 2, 512, most);
+        put(table, HEADER, column, x);
+    }
+}
+
+// The next or the last of the numbers below the size and `past`, in a circle.
+fn turned(x: usize, back: usize, size: usize, past: usize) -> usize {
+    if back == 0 {
+        if x < size {
+            return if x + 1 == size { past } else { x + 1 };
+        }
+        return 0;
+    }
+    if x == 0 {
+        return past;
+    }
+    if x < size {
+        return x - 1;
+    }
+    if size == 0 { 0 } else { size - 1 }
+}
+
+// Weighing: each positional controller of a chart of one or two positions, else four that are drawn.
+fn weigh_controllers(chart: &Chart, text: &[u8], seed: &mut usize, tally: &mut Tally) {
+    let mut i: usize = 0;
+    while i < 4 {
+        if 2 < positions(chart) {
+            weigh_drawn(chart, text, seed, tally);
+        } else {
+            weigh_numbered(chart, text, i % 2, i / 2, tally);
+        }
+        i += 1;
+    }
+}
+
+// How many choices there are at a position, one where none is made.
+fn ways(chart: &Chart, v: usize) -> usize {
+    if v < positions(chart) {
+        if owner(chart, v) != LANE {
+            return cell(chart, COUNTS, MEANT + v % 512);
+        }
+    }
+    1
+}
+
+fn weigh_numbered(chart: &Chart, text: &[u8], here: usize, there: usize, tally: &mut Tally) {
+    let mut table = [0usize; 4096];
+    let mut row = [4660u16; 512];
+    if here < ways(chart, 0) {
+        if there < ways(chart, 1) {
+            choose(chart, &mut table, &mut row, 0, here);
+            choose(chart, &mut table, &mut row, 1, there);
+            compare_worths(chart, &mut table, text, &row, tally);
+        }
+    }
+}
+
+fn weigh_drawn(chart: &Chart, text: &[u8], seed: &mut usize, tally: &mut Tally) {
+    let mut table = [0usize; 4096];
+    let mut row = [4660u16; 512];
+    choose_drawn(chart, &mut table, &mut row, seed);
+    compare_worths(chart, &mut table, text, &row, tally);
+}
+
+fn choose_drawn(chart: &Chart, table: &mut Table, row: &mut [u16; 512], seed: &mut usize) {
+    let n = positions(chart);
+    let mut v = 0;
+    while v < n {
+        choose(chart, table, row, v, below(seed, ways(chart, v)));
+        v += 1;
+    }
+}
+
+// Chooses v's i-th meant target.
+fn choose(chart: &Chart, table: &mut Table, row: &mut [u16; 512], v: usize, i: usize) {
+    let x = if owner(chart, v) == LANE {
+        NONE
+    } else {
+        target(chart, v, MEANT, i)
+    };
+    put(table, CHOICE, v, x);
+    row[v % 512] = (x % 65536) as u16;
+}
+
+fn compare_worths(
+    chart: &Chart,
+    table: &mut Table,
+    text: &[u8],
+    row: &[u16; 512],
+    tally: &mut Tally,
+) {
+    let mut worths = [4660u16; 512];
+    let done = is_done(weigh_chart(text, row, &mut worths));
+    weigh_choices(chart, table);
+    add(tally, CONTROLLERS, 1);
+    expect(done, b"weighing's answer", text, tally);
+    expect(
+        same_row(table, WORTH, positions(chart), &worths),
+        b"weighing's row",
+        text,
+        tally,
+    );
+}
+
+fn is_done(answer: Weighed) -> bool {
+    match answer {
+        Weighed::Done => true,
+        Weighed::Refused(_) => false,
+        Weighed::Short => false,
+        Weighed::Choice => false,
+    }
+}

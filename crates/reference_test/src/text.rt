@@ -1,0 +1,111 @@
+// The texts of charts and plates, written byte by byte.
+use crate::sheet::CHOICE;
+use crate::sheet::Chart;
+use crate::sheet::HEADER;
+use crate::sheet::LEFT;
+use crate::sheet::LETTER;
+use crate::sheet::NONE;
+use crate::sheet::RIGHT;
+use crate::sheet::STEP;
+use crate::sheet::Table;
+use crate::sheet::VALUE;
+use crate::sheet::cell;
+use crate::sheet::get;
+use crate::sheet::positions;
+
+// Room for every text.
+pub type Page = [u8; 65536];
+
+// The k-th byte of a field: of the number's digits after spaces, or of the word that stands for none.
+fn glyph(x: usize, k: usize, word: &[u8; 5]) -> u8 {
+    if x == NONE {
+        return word[k % 5];
+    }
+    let left = match k {
+        0 => x / 10000,
+        1 => x / 1000,
+        2 => x / 100,
+        3 => x / 10,
+        _ => x,
+    };
+    if left == 0 {
+        if k < 4 {
+            return b' ';
+        }
+    }
+    (left % 10 + 48) as u8
+}
+
+fn put_field(page: &mut Page, at: usize, x: usize, word: &[u8; 5]) {
+    let mut k: usize = 0;
+    while k < 5 {
+        page[(at % 65536 + k) % 65536] = glyph(x, k, word);
+        k += 1;
+    }
+}
+
+fn chart_line(page: &mut Page, chart: &Chart, i: usize) {
+    let at = i % 5000 * 12;
+    page[at] = (cell(chart, LETTER, i) % 256) as u8;
+    put_field(page, at + 1, cell(chart, LEFT, i), b"    -");
+    put_field(page, at + 6, cell(chart, RIGHT, i), b"    -");
+    page[at + 11] = b'\n';
+}
+
+fn chart_lines(page: &mut Page, chart: &Chart, lines: usize) {
+    let mut i = 0;
+    while i < lines {
+        chart_line(page, chart, i);
+        i += 1;
+    }
+}
+
+// Writes a chart's text, and answers its length.
+pub fn write_chart(page: &mut Page, chart: &Chart) -> usize {
+    let lines = positions(chart) % 1024 + cell(chart, RIGHT, 0) % 8192 + 1;
+    chart_lines(page, chart, lines);
+    lines * 12
+}
+
+fn plate_line(page: &mut Page, table: &Table, v: usize) {
+    let at = v % 1024 * 22 + 22;
+    page[at] = b'V';
+    put_field(page, at + 1, v, b"    -");
+    put_field(page, at + 6, get(table, VALUE, v), b" ever");
+    put_field(page, at + 11, get(table, CHOICE, v), b"    -");
+    put_field(page, at + 16, get(table, STEP, v), b"    -");
+    page[at + 21] = b'\n';
+}
+
+fn first_line(page: &mut Page, table: &Table, n: usize) {
+    page[0] = b'P';
+    put_field(page, 1, n, b"    -");
+    put_field(page, 6, get(table, HEADER, 0), b"    -");
+    put_field(page, 11, get(table, HEADER, 1), b"    -");
+    put_field(page, 16, get(table, HEADER, 2), b"    -");
+    page[21] = b'\n';
+}
+
+// Writes a plate's text, and answers its length.
+pub fn write_plate(page: &mut Page, table: &Table, n: usize) -> usize {
+    first_line(page, table, n);
+    let mut v = 0;
+    while v < n {
+        plate_line(page, table, v);
+        v += 1;
+    }
+    n % 1024 * 22 + 22
+}
+
+// The first bytes of a page.
+pub fn part(page: &Page, size: usize) -> &[u8] {
+    front(page, size)
+}
+
+fn front(text: &[u8], size: usize) -> &[u8] {
+    if size <= text.len() {
+        &text[0..size]
+    } else {
+        text
+    }
+}
