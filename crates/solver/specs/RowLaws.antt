@@ -1,7 +1,7 @@
 -- Rows that a loop fills: from the front, one number a turn, or at the place that each move names. Each has a law for
 -- the start and for a turn.
 use Prim.Native.Nat.{ℕ, zero, suc, _+_, _≤_, _<_}
-use native.Mathlib.Nat.{le-refl}
+use native.Mathlib.Nat.{le-refl, add-zero}
 use native.Mathlib.Numerals.{add-one}
 use native.Mathlib.Omega.{arith}
 use native.Mathlib.Decide.{ℕ-discrete}
@@ -39,6 +39,16 @@ pub setIf-stays : (b : Bool) (n v x : ℕ) (row : List ℕ) → v < n → Stays 
 setIf-stays true n v x row l j k = getD-set-other row v j x 0 (λ e. omega arith)
 setIf-stays false n v x row l j k = refl
 
+-- past all positions, unless the test passes
+unfoldable pub asideIf : Bool → ℕ
+asideIf true = 0
+asideIf false = 512
+
+pub aside-most : {x : ℕ} (b : Bool) → x ≡ asideIf b → x ≤ 512
+unfolding asideIf
+aside-most true e = omega arith
+aside-most false e = omega arith
+
 -- a turn: the number is stored, or was right already
 pub filled-next : {i : ℕ} {f : ℕ → ℕ} {before after : List ℕ} → Filled before after i f → (b : Bool) (x : ℕ) → i < length after
     → f i ≡ cond b x (getD before i 0) → Filled before (setIf b i x after) (i + 1) f
@@ -62,6 +72,12 @@ pub some-next : (p : ℕ → Bool) (i : ℕ) → someBelow p (i + 1) ≡ (someBe
 unfolding someBelow
 some-next p i = rw add-one
 
+-- tests that agree below i
+pub some-same : (p q : ℕ → Bool) (i : ℕ) → ((u : ℕ) → u < i → p u ≡ q u) → someBelow p i ≡ someBelow q i
+unfolding someBelow
+some-same p q zero h = refl
+some-same p q (suc i) h = rw (some-same p q i (λ u l. h u (omega arith)), h i (omega arith))
+
 -- one that passes is enough
 pub some-hit : (p : ℕ → Bool) (n v : ℕ) → v < n → p v ≡ true → someBelow p n ≡ true
 unfolding someBelow
@@ -71,6 +87,10 @@ some-hit p (suc n) v l e = go (some-hit p n v) (ℕ-discrete v n)
     go : (v < n → p v ≡ true → someBelow p n ≡ true) → Dec (v ≡ n) → (someBelow p n || p n) ≡ true
     go rec (yes z) = rw (← z, e, or-true)
     go rec (no z) = rw (rec (omega arith) e)
+
+pub found-same : (at : ℕ → ℕ) (p q : ℕ → Bool) (i v : ℕ) → ((j : ℕ) → j < i → p j ≡ q j) → found at p i v ≡ found at q i v
+unfolding found
+found-same at p q i v h = some-same (λ j. eqb (at j) v && p j) (λ j. eqb (at j) v && q j) i (λ j l. rw (h j l))
 
 -- before the first item
 pub marked-none : {n : ℕ} {at : ℕ → ℕ} {q : ℕ → Bool} {g : ℕ → Bool → ℕ} {row : List ℕ} → RowIs row n (λ v. g v false) → Marked n at q g 0 row
@@ -101,3 +121,12 @@ module _ {n : ℕ} {at : ℕ → ℕ} {q : ℕ → Bool} {g : ℕ → Bool → �
       go : (b : Bool) → q i ≡ b → Marked n at q g (i + 1) (setIf b (at i) (g (at i) true) row)
       go true e = marked-hit l (inside e) e
       go false e = marked-miss e
+
+  -- the same turn where every item marks, but one without the property past the n places
+  pub marked-aside : n ≤ length row → n ≤ 512 → at i < n → Marked n at q g (i + 1) (set row (at i + asideIf (q i)) (g (at i) true))
+  unfolding asideIf
+  marked-aside l small inside = go (q i) refl
+    where
+      go : (b : Bool) → q i ≡ b → Marked n at q g (i + 1) (set row (at i + asideIf b) (g (at i) true))
+      go true e = rw add-zero (marked-hit l inside e)
+      go false e = record { marks = λ v m. getD-set-other row (at i + 512) v (g (at i) true) 0 (λ z. omega arith) ∙ marked-miss e .marks v m }
