@@ -1,7 +1,7 @@
 // The rounds of document 01, the plain way: each round walks all moves against the table as it was, and then places.
 ghost use mathlib.Core.Path.{_≡_};
 ghost use Prim.Native.Nat.{_+_, _<_, _≤_};
-ghost use mathlib.Core.Bool.{true, false, not, _&&_};
+ghost use mathlib.Core.Bool.{true, false, cond, not, _&&_};
 ghost use lib.ListN.{length, getD, set};
 ghost use lib.Dec.{eqb};
 ghost use Rattle.decode.specs.Loaded.{Filled};
@@ -25,20 +25,31 @@ pub fn clear(n: usize, row: &mut [u16])
     }
 }
 
-// Places v in round (k, s) if it is flagged and not placed yet, and counts it.
+// 1 if a round takes a position with this flag and this value, else 0.
+fn takes(flag: u8, value: u16) -> usize
+    ensures { λ r. ⌜ r ≡ bit (eqb flag 1 && eqb value 65535) ⌝ }
+{
+    if flag != 1 {
+        return 0;
+    }
+    if value == NONE { 1 } else { 0 }
+}
+
+fn pick(take: usize, new: u16, old: u16) -> u16
+    ensures { λ r. ⌜ r ≡ cond (eqb take 1) new old ⌝ }
+{
+    if take == 1 { new } else { old }
+}
+
+// Places v in round (k, s) if it is flagged and not placed yet, and counts it. It stores either way, so that a round jumps on no test.
 fn place_one(v: usize, flags: &[u8], k: u16, s: u16, values: &mut [u16], steps: &mut [u16]) -> usize
     requires { ⌜ (v < length (now flags)) × (v < length (now values)) × (v < length (now steps)) ⌝ }
     ensures { λ r. ⌜ PlacingAt v (now (flags .entry)) k s (now (values .entry)) (now (steps .entry)) (now (values .exit)) (now (steps .exit)) r ⌝ }
 {
-    if flags[v] != 1 {
-        return 0;
-    }
-    if values[v] != NONE {
-        return 0;
-    }
-    values[v] = k;
-    steps[v] = s;
-    1
+    let take = takes(flags[v], values[v]);
+    values[v] = pick(take, k, values[v]);
+    steps[v] = pick(take, s, steps[v]);
+    take
 }
 
 // Round (k, s): places the flagged positions that are not placed yet, and counts them.
