@@ -1,7 +1,7 @@
 -- Rows that a loop fills: from the front, one number a turn, or at the place that each move names. Each has a law for
 -- the start and for a turn.
 use Prim.Native.Nat.{ℕ, zero, suc, _+_, _≤_, _<_}
-use native.Mathlib.Nat.{le-refl, add-zero}
+use native.Mathlib.Nat.{le-refl}
 use native.Mathlib.Numerals.{add-one}
 use native.Mathlib.Omega.{arith}
 use native.Mathlib.Decide.{ℕ-discrete}
@@ -39,15 +39,14 @@ pub setIf-stays : (b : Bool) (n v x : ℕ) (row : List ℕ) → v < n → Stays 
 setIf-stays true n v x row l j k = getD-set-other row v j x 0 (λ e. omega arith)
 setIf-stays false n v x row l j k = refl
 
--- past all positions, unless the test passes
-unfoldable pub asideIf : Bool → ℕ
-asideIf true = 0
-asideIf false = 512
+-- the place v if the test passes, else 512, which is past all positions
+unfoldable pub spotIf : Bool → ℕ → ℕ
+spotIf b v = cond b v 512
 
-pub aside-most : {x : ℕ} (b : Bool) → x ≡ asideIf b → x ≤ 512
-unfolding asideIf
-aside-most true e = omega arith
-aside-most false e = omega arith
+pub spot-most : {x : ℕ} (b : Bool) (v : ℕ) → v < 512 → x ≡ spotIf b v → x ≤ 512
+unfolding spotIf
+spot-most true v l e = omega arith
+spot-most false v l e = omega arith
 
 -- a turn: the number is stored, or was right already
 pub filled-next : {i : ℕ} {f : ℕ → ℕ} {before after : List ℕ} → Filled before after i f → (b : Bool) (x : ℕ) → i < length after
@@ -123,10 +122,10 @@ module _ {n : ℕ} {at : ℕ → ℕ} {q : ℕ → Bool} {g : ℕ → Bool → �
       go false e = marked-miss e
 
   -- the same turn where every item marks, but one without the property past the n places
-  pub marked-aside : n ≤ length row → n ≤ 512 → at i < n → Marked n at q g (i + 1) (set row (at i + asideIf (q i)) (g (at i) true))
-  unfolding asideIf
+  pub marked-aside : n ≤ length row → n ≤ 512 → at i < n → Marked n at q g (i + 1) (set row (spotIf (q i) (at i)) (g (at i) true))
+  unfolding spotIf
   marked-aside l small inside = go (q i) refl
     where
-      go : (b : Bool) → q i ≡ b → Marked n at q g (i + 1) (set row (at i + asideIf b) (g (at i) true))
-      go true e = rw add-zero (marked-hit l inside e)
-      go false e = record { marks = λ v m. getD-set-other row (at i + 512) v (g (at i) true) 0 (λ z. omega arith) ∙ marked-miss e .marks v m }
+      go : (b : Bool) → q i ≡ b → Marked n at q g (i + 1) (set row (spotIf b (at i)) (g (at i) true))
+      go true e = marked-hit l inside e
+      go false e = record { marks = λ v m. getD-set-other row 512 v (g (at i) true) 0 (λ z. omega arith) ∙ marked-miss e .marks v m }

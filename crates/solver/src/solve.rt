@@ -6,7 +6,7 @@ ghost use lib.ListN.{length, getD, set};
 ghost use lib.Dec.{eqb};
 ghost use Rattle.decode.specs.Loaded.{Filled};
 ghost use Rattle.decode.specs.Rows.{RowIs};
-ghost use Rattle.solver.specs.RowLaws.{Marked, asideIf, numberAt};
+ghost use Rattle.solver.specs.RowLaws.{Marked, numberAt, spotIf};
 ghost use Rattle.solver.specs.Held.{NextValue, Settling, Solved, Solving};
 ghost use Rattle.solver.specs.Solve.{AtMove, Placing, PlacingAt, Within, bit, decides, disturbs, firstFlag, meets, readyFlag};
 
@@ -115,14 +115,14 @@ fn show(n: usize, k: u16, values: &[u16], shows: &mut [u8])
     }
 }
 
-// How far aside a move leaves its mark: 0 if it has the cost and meets what it seeks, else past all positions.
-fn aside(has: u8, cost: u8, seeks: u8, shows: u8) -> usize
-    ensures { λ r. ⌜ r ≡ asideIf (eqb has cost && eqb seeks shows) ⌝ }
+// Where a move leaves its mark: at the position that it leaves if it has the cost and meets what is sought, else past all positions.
+fn spot(has: u8, cost: u8, seeks: u8, shows: u8, from: usize) -> usize
+    ensures { λ r. ⌜ r ≡ spotIf (eqb has cost && eqb seeks shows) from ⌝ }
 {
     if has != cost {
         return 512;
     }
-    if seeks == shows { 0 } else { 512 }
+    if seeks == shows { from } else { 512 }
 }
 
 // Marks the position that the i-th move leaves, if the move has the cost and its target shows what the position seeks. Any other
@@ -137,12 +137,12 @@ fn mark_by(
     tos: &[u16],
     found: &mut [u8],
 )
-    requires { ⌜ AtMove i (now costs) (now froms) (now tos) (now shows) (now seeks) × (getD (now froms) i 0 < 512) × (1024 ≤ length (now found)) ⌝ }
-    ensures { λ _. ⌜ now (found .exit) ≡ set (now (found .entry)) (getD (now (froms .entry)) i 0 + asideIf (meets cost (now (seeks .entry)) (now (shows .entry)) (now (costs .entry)) (now (froms .entry)) (now (tos .entry)) i)) 1 ⌝ }
+    requires { ⌜ AtMove i (now costs) (now froms) (now tos) (now shows) (now seeks) × (getD (now froms) i 0 < 512) × (512 < length (now found)) ⌝ }
+    ensures { λ _. ⌜ now (found .exit) ≡ set (now (found .entry)) (spotIf (meets cost (now (seeks .entry)) (now (shows .entry)) (now (costs .entry)) (now (froms .entry)) (now (tos .entry)) i) (getD (now (froms .entry)) i 0)) 1 ⌝ }
 {
     let from = froms[i] as usize;
     let to = tos[i] as usize;
-    found[from + aside(costs[i], cost, seeks[from], shows[to])] = 1;
+    found[spot(costs[i], cost, seeks[from], shows[to], from)] = 1;
 }
 
 // Marks every position that such a move leaves. No mark is there before.
@@ -157,7 +157,7 @@ fn mark(
     tos: &[u16],
     found: &mut [u8],
 )
-    requires { ⌜ Within n m (now costs) (now froms) (now tos) × (n ≤ 512) × (n ≤ length (now seeks)) × (n ≤ length (now shows)) × (1024 ≤ length (now found)) × RowIs (now found) n (λ v. 0) ⌝ }
+    requires { ⌜ Within n m (now costs) (now froms) (now tos) × (n ≤ 512) × (n ≤ length (now seeks)) × (n ≤ length (now shows)) × (512 < length (now found)) × RowIs (now found) n (λ v. 0) ⌝ }
     ensures { λ _. ⌜ Marked n (numberAt (now (froms .entry))) (meets cost (now (seeks .entry)) (now (shows .entry)) (now (costs .entry)) (now (froms .entry)) (now (tos .entry))) (λ v. bit) m (now (found .exit)) ⌝ }
 {
     let mut i: usize = 0;
@@ -203,7 +203,7 @@ fn flag_ready(
 {
     let mut firsts = [0u8; 512];
     let mut shows = [0u8; 512];
-    let mut found = [0u8; 1024];
+    let mut found = [0u8; 513];
     flag_owners(n, owners, &mut firsts);
     show(n, NONE, values, &mut shows);
     mark(n, m, 0, &firsts, &shows, costs, froms, tos, &mut found);
@@ -227,7 +227,7 @@ fn flag_disturbed(
     let firsts = [0u8; 512];
     let ones = [1u8; 512];
     let mut shows = [0u8; 512];
-    let mut found = [0u8; 1024];
+    let mut found = [0u8; 513];
     show(n, k, values, &mut shows);
     mark(n, m, 1, &ones, &shows, costs, froms, tos, &mut found);
     turn(n, &firsts, &found, flags);

@@ -28,7 +28,7 @@ slice-aggregate-mark-3 : tie.Need-slice-aggregate-mark-3
 slice-aggregate-mark-3 c = search needs
 
 mark-requires : tie.Need-mark-requires
-mark-requires c κs = (c .before .before .before .before .before .before .before .before .before .before .before .pre .0, omega arith, omega arith, omega arith, omega arith, row-replicate 1024 0 (omega arith))
+mark-requires c κs = (c .before .before .before .before .before .before .before .before .before .before .before .pre .0, omega arith, omega arith, omega arith, omega arith, row-replicate 513 0 (omega arith))
 
 slice-aggregate-turn : tie.Need-slice-aggregate-turn
 slice-aggregate-turn c = search needs
