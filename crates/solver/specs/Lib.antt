@@ -1,5 +1,6 @@
 pub mod RowLaws
 pub mod Solve
+pub mod MarkLaws
 pub mod PlaceLaws
 pub mod Held
 pub mod HeldLaws

@@ -6,10 +6,11 @@ use native.Mathlib.Omega.{arith}
 use mathlib.Core.Path.{_≡_, refl, sym, ap, subst, _∙_}
 use mathlib.Core.Bool.{Bool, true, false, cond, _&&_}
 use mathlib.Core.List.{List}
-use lib.ListN.{length, getD}
+use lib.ListN.{length, getD, set}
+use lib.Seq.{set-getD}
 use lib.Dec.{eqb}
 use Rattle.game.specs.Summary.{countBelow}
-use Rattle.solver.specs.RowLaws.{filled-next}
+use Rattle.solver.specs.RowLaws.{filled-next, setIf}
 use Rattle.decode.specs.Loaded.{Filled}
 use Rattle.decode.specs.Filled.{filled-none}
 use Rattle.solver.specs.Solve.{bit, taken, Placing, PlacingAt}
@@ -48,3 +49,8 @@ module _ (flags : List ℕ) (k s : ℕ) (values steps : List ℕ) where
       step = rw (e .step) (filled-next (h .step) (taken flags values′ v) s m (rw taken-as-before));
       counted = rw (count-next, e .counted, h .counted, taken-as-before);
     }
+
+-- a position that is not taken is stored as it was
+pub set-picked : (b : Bool) (v x : ℕ) (row : List ℕ) {take : ℕ} → take ≡ bit b → set row v (cond (eqb take 1) x (getD row v 0)) ≡ setIf b v x row
+set-picked true v x row e = rw e
+set-picked false v x row e = rw e (set-getD row v 0)

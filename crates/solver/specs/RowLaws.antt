@@ -39,6 +39,15 @@ pub setIf-stays : (b : Bool) (n v x : ℕ) (row : List ℕ) → v < n → Stays 
 setIf-stays true n v x row l j k = getD-set-other row v j x 0 (λ e. omega arith)
 setIf-stays false n v x row l j k = refl
 
+-- the place v if the test passes, else 512, which is past all positions
+unfoldable pub spotIf : Bool → ℕ → ℕ
+spotIf b v = cond b v 512
+
+pub spot-most : {x : ℕ} (b : Bool) (v : ℕ) → v < 512 → x ≡ spotIf b v → x ≤ 512
+unfolding spotIf
+spot-most true v l e = omega arith
+spot-most false v l e = omega arith
+
 -- a turn: the number is stored, or was right already
 pub filled-next : {i : ℕ} {f : ℕ → ℕ} {before after : List ℕ} → Filled before after i f → (b : Bool) (x : ℕ) → i < length after
     → f i ≡ cond b x (getD before i 0) → Filled before (setIf b i x after) (i + 1) f
@@ -62,6 +71,12 @@ pub some-next : (p : ℕ → Bool) (i : ℕ) → someBelow p (i + 1) ≡ (someBe
 unfolding someBelow
 some-next p i = rw add-one
 
+-- tests that agree below i
+pub some-same : (p q : ℕ → Bool) (i : ℕ) → ((u : ℕ) → u < i → p u ≡ q u) → someBelow p i ≡ someBelow q i
+unfolding someBelow
+some-same p q zero h = refl
+some-same p q (suc i) h = rw (some-same p q i (λ u l. h u (omega arith)), h i (omega arith))
+
 -- one that passes is enough
 pub some-hit : (p : ℕ → Bool) (n v : ℕ) → v < n → p v ≡ true → someBelow p n ≡ true
 unfolding someBelow
@@ -71,6 +86,10 @@ some-hit p (suc n) v l e = go (some-hit p n v) (ℕ-discrete v n)
     go : (v < n → p v ≡ true → someBelow p n ≡ true) → Dec (v ≡ n) → (someBelow p n || p n) ≡ true
     go rec (yes z) = rw (← z, e, or-true)
     go rec (no z) = rw (rec (omega arith) e)
+
+pub found-same : (at : ℕ → ℕ) (p q : ℕ → Bool) (i v : ℕ) → ((j : ℕ) → j < i → p j ≡ q j) → found at p i v ≡ found at q i v
+unfolding found
+found-same at p q i v h = some-same (λ j. eqb (at j) v && p j) (λ j. eqb (at j) v && q j) i (λ j l. rw (h j l))
 
 -- before the first item
 pub marked-none : {n : ℕ} {at : ℕ → ℕ} {q : ℕ → Bool} {g : ℕ → Bool → ℕ} {row : List ℕ} → RowIs row n (λ v. g v false) → Marked n at q g 0 row
@@ -101,3 +120,12 @@ module _ {n : ℕ} {at : ℕ → ℕ} {q : ℕ → Bool} {g : ℕ → Bool → �
       go : (b : Bool) → q i ≡ b → Marked n at q g (i + 1) (setIf b (at i) (g (at i) true) row)
       go true e = marked-hit l (inside e) e
       go false e = marked-miss e
+
+  -- the same turn where every item marks, but one without the property past the n places
+  pub marked-aside : n ≤ length row → n ≤ 512 → at i < n → Marked n at q g (i + 1) (set row (spotIf (q i) (at i)) (g (at i) true))
+  unfolding spotIf
+  marked-aside l small inside = go (q i) refl
+    where
+      go : (b : Bool) → q i ≡ b → Marked n at q g (i + 1) (set row (spotIf b (at i)) (g (at i) true))
+      go true e = marked-hit l inside e
+      go false e = record { marks = λ v m. getD-set-other row 512 v (g (at i) true) 0 (λ z. omega arith) ∙ marked-miss e .marks v m }

@@ -81,6 +81,10 @@ readyFlag owners v decided = cond (eqb (getD owners v 0) 0) (bit (not decided)) 
 unfoldable pub disturbs : (costs tos values : List ℕ) → ℕ → ℕ → Bool
 disturbs costs tos values k i = eqb (getD costs i 0) 1 && eqb (getD values (getD tos i 0) 0) k
 
+-- the i-th move has this cost, and its target shows what the position that it leaves seeks
+unfoldable pub meets : (cost : ℕ) (seeks shows costs froms tos : List ℕ) → ℕ → Bool
+meets cost seeks shows costs froms tos i = eqb (getD costs i 0) cost && eqb (getD seeks (getD froms i 0) 0) (getD shows (getD tos i 0) 0)
+
 pub ready-flag-first : (owners : List ℕ) (v : ℕ) → readyFlag owners v false ≡ firstFlag (getD owners v 0)
 unfolding readyFlag firstFlag
 ready-flag-first owners v = refl

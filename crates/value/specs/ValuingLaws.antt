@@ -27,7 +27,7 @@ use Rattle.solver.specs.Held.{Holds, Decoded, Solved}
 use Rattle.solver.specs.HeldLaws.{decoded-within}
 use Rattle.choice.specs.Choose.{ValuesAre, Chosen}
 use Rattle.choice.specs.Summarize.{rowValue, PairsFit, SummaryOf}
-use Rattle.choice.specs.SummarizeLaws.{some-same}
+use Rattle.solver.specs.RowLaws.{some-same}
 use Rattle.value.specs.Valuing.{PlateRows, PlateSummary, Decodable, RowsValued, valued, valuedBy, ValuedIs}
 use Rattle.value.specs.declared.valuing.Valued.the-variants.{Rounds, Refused as Turned, Short}
 use Rattle.choice.specs.declared.summary.Summary.{Summary}

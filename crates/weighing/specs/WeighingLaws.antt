@@ -30,12 +30,12 @@ use Rattle.chart.specs.Accepted.{accepted-size}
 use Rattle.chart.specs.declared.Chart.{Chart}
 use Rattle.refusal.specs.declared.Refusal.{Refusal}
 use Rattle.chart.specs.declared.Examination.the-variants.{Accepted, Refused}
-use Rattle.solver.specs.RowLaws.{Stays, Marked, found, numberAt, some-hit}
+use Rattle.solver.specs.RowLaws.{Stays, Marked, found, numberAt, some-hit, some-same}
 use Rattle.solver.specs.Solve.{bit, Within}
 use Rattle.solver.specs.Held.{Holds, Decoded, Solved}
 use Rattle.solver.specs.HeldLaws.{bit-one, from-inside, to-inside, lines-of}
 use Rattle.choice.specs.Summarize.{rowValue}
-use Rattle.choice.specs.SummarizeLaws.{same-values, ever-number, some-same}
+use Rattle.choice.specs.SummarizeLaws.{same-values, ever-number}
 use Rattle.value.specs.ValuingLaws.{round-value-fits}
 use Rattle.weighing.specs.Weigh.{isChosen, isLegal, moveStays, passing, Copied}
 use Rattle.weighing.specs.WeighLaws.{passing-length}

@@ -1,64 +1,64 @@
--- `flag_disturbed` meets its contract: the invariant says that the first i moves have flagged the positions that they disturb.
+-- `flag_disturbed` meets its contract: every position seeks the value, no flag is there at first, and a mark sets one.
 use Prim.Native.Nat.{ℕ, _+_, _-_, _≤_, _<_}
-use native.Mathlib.Nat.{le-antisymm}
 use native.Mathlib.Omega.{arith}
 use borrow.Author.Needs.{needs}
-use mathlib.Core.Path.{_≡_, refl}
-use lib.ListN.{length, getD, set, length-set}
-use Rattle.solver.specs.RowLaws.{Marked, numberAt, marked-none, marked-next}
-use Rattle.solver.specs.Solve.{AtMove, at-move, disturbs, bit}
+use lib.ListN.{length, getD, set, length-set, replicate}
+use Rattle.solver.specs.MarkLaws.{row-replicate, disturbed-marked}
 use Rattle.solver.proofs.solve.flag_disturbed.Statement.{statement}
 use Rattle.solver.proofs.solve.flag_disturbed.Tie as tie
 use Rattle.solver.proofs.solve.flag_disturbed.Reads as reads
 use Rattle.solver.proofs.solve.flag_disturbed.Lts as lts
-use Rattle.solver.proofs.solve.flag_disturbed_by.Reads as flag-disturbed-by-reads
-use Rattle.solver.proofs.solve.flag_none.Reads as flag-none-reads
+use Rattle.solver.proofs.solve.mark.Reads as mark-reads
+use Rattle.solver.proofs.solve.show.Reads as show-reads
+use Rattle.solver.proofs.solve.turn.Reads as turn-reads
 
-abbrev Inv-loop : tie.InvT-loop
-Inv-loop n m k costs froms tos values flags₀ i₀ flags i =
-    (i ≤ m) × (length flags ≡ length flags₀) × Marked n (numberAt froms) (disturbs costs tos values k) (λ v. bit) i flags
+slice-aggregate-show : tie.Need-slice-aggregate-show
+slice-aggregate-show c = search needs
 
-abbrev μ-loop : tie.MeasureT-loop
-μ-loop n m k costs froms tos values flags₀ i₀ flags i = m - i
+show-requires : tie.Need-show-requires
+show-requires c κs = search needs
 
-flag-none-requires : tie.Need-flag-none-requires Inv-loop μ-loop
-flag-none-requires c κs = omega arith
+slice-aggregate-mark : tie.Need-slice-aggregate-mark
+slice-aggregate-mark c = search needs
 
-loop-holds : tie.Need-loop-holds Inv-loop μ-loop
-loop-holds c = (omega arith, refl, marked-none (c .before .before .flag-none .ensures .row))
+slice-aggregate-mark-2 : tie.Need-slice-aggregate-mark-2
+slice-aggregate-mark-2 c = search needs
 
-flag-disturbed-by-requires : tie.Need-flag-disturbed-by-requires Inv-loop μ-loop
-flag-disturbed-by-requires c κs = at-move (c .before .before .before .before .before .before .before .before .before .before .before .before .pre .0) _ _ (omega arith) (omega arith) _ (c .before .loop-test .taken)
+slice-aggregate-mark-3 : tie.Need-slice-aggregate-mark-3
+slice-aggregate-mark-3 c = search needs
 
-add-i : tie.Need-add-i Inv-loop μ-loop
-add-i c = omega arith
+mark-requires : tie.Need-mark-requires
+mark-requires c κs = (c .before .before .before .before .before .before .before .before .before .before .before .pre .0, omega arith, omega arith, omega arith, omega arith, row-replicate 513 0 (omega arith))
 
-loop-less : tie.Need-loop-less Inv-loop μ-loop
-loop-less c = omega arith
+slice-aggregate-turn : tie.Need-slice-aggregate-turn
+slice-aggregate-turn c = search needs
 
-loop-again : tie.Need-loop-again Inv-loop μ-loop
-loop-again c =
-    let w = c .before .before .before .before .before .before .before .before .before .before .before .before .before .before .before .pre .0 in
-    let at-loop = c .before .before .before .before .before in
-    (omega arith, omega arith, rw (c .before .before .flag-disturbed-by .ensures) (marked-next (at-loop .loop .inv .2) (omega (arith, at-loop)) (λ _. w .from-inside _ (c .before .before .before .before .loop-test .taken))))
+slice-aggregate-turn-2 : tie.Need-slice-aggregate-turn-2
+slice-aggregate-turn-2 c = search needs
 
-same-length : tie.Need-same-length Inv-loop μ-loop
-same-length c = omega arith
+turn-requires : tie.Need-turn-requires
+turn-requires c κs = search needs
 
-returns : tie.Need-returns Inv-loop μ-loop
-returns c = rw (← le-antisymm (c .before .loop .inv .0) (c .loop-test .left)) (c .before .loop .inv .2)
+same-length : tie.Need-same-length
+same-length c = search needs
+
+returns : tie.Need-returns
+returns c =
+    let marked = c .before .before .before .before .before .before .before .mark .ensures in
+    disturbed-marked (c .before .before .before .before .before .before .before .before .before .before .before .before .before .before .before .before .before .before .before .pre .0) _ (replicate 512 0) _ _ _ (row-replicate 512 1 (omega (arith, c .before .before .before .before .before .before .before .before .before .before .before .before .before .before .before .before .before .before .before))) (row-replicate 512 0 (omega (arith, c .before .before .before .before .before .before .before .before .before .before .before .before .before .before .before .before .before .before .before))) (c .before .before .before .before .before .before .before .before .before .before .before .before .show .ensures .row) marked (c .before .before .turn .ensures .row)
 
 pub flag-disturbed-spec : {M : Type 1} → statement M
 flag-disturbed-spec =
     tie.close
     (tie.spec
-    Inv-loop
-    μ-loop
-    flag-none-requires
-    loop-holds
-    flag-disturbed-by-requires
-    add-i
-    loop-less
-    loop-again
+    slice-aggregate-show
+    show-requires
+    slice-aggregate-mark
+    slice-aggregate-mark-2
+    slice-aggregate-mark-3
+    mark-requires
+    slice-aggregate-turn
+    slice-aggregate-turn-2
+    turn-requires
     same-length
     returns)

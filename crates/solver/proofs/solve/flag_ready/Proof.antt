@@ -1,64 +1,73 @@
--- `flag_ready` meets its contract: the invariant says that the first i moves have decided the flags of the positions that they leave.
+-- `flag_ready` meets its contract: the first flags are what each position seeks, and a mark turns one over.
 use Prim.Native.Nat.{ℕ, _+_, _-_, _≤_, _<_}
-use native.Mathlib.Nat.{le-antisymm}
 use native.Mathlib.Omega.{arith}
 use borrow.Author.Needs.{needs}
-use mathlib.Core.Path.{_≡_, refl}
 use lib.ListN.{length, getD, set, length-set}
-use Rattle.solver.specs.RowLaws.{Marked, numberAt, marked-none, marked-next}
-use Rattle.solver.specs.Solve.{AtMove, at-move, decides, readyFlag}
+use Rattle.solver.specs.MarkLaws.{row-replicate, ready-marked}
 use Rattle.solver.proofs.solve.flag_ready.Statement.{statement}
 use Rattle.solver.proofs.solve.flag_ready.Tie as tie
 use Rattle.solver.proofs.solve.flag_ready.Reads as reads
 use Rattle.solver.proofs.solve.flag_ready.Lts as lts
 use Rattle.solver.proofs.solve.flag_owners.Reads as flag-owners-reads
-use Rattle.solver.proofs.solve.flag_ready_by.Reads as flag-ready-by-reads
+use Rattle.solver.proofs.solve.mark.Reads as mark-reads
+use Rattle.solver.proofs.solve.show.Reads as show-reads
+use Rattle.solver.proofs.solve.turn.Reads as turn-reads
 
-abbrev Inv-loop : tie.InvT-loop
-Inv-loop n m owners costs froms tos values flags₀ i₀ flags i =
-    (i ≤ m) × (length flags ≡ length flags₀) × Marked n (numberAt froms) (decides owners costs froms tos values) (readyFlag owners) i flags
+slice-aggregate-flag-owners : tie.Need-slice-aggregate-flag-owners
+slice-aggregate-flag-owners c = search needs
 
-abbrev μ-loop : tie.MeasureT-loop
-μ-loop n m owners costs froms tos values flags₀ i₀ flags i = m - i
+flag-owners-requires : tie.Need-flag-owners-requires
+flag-owners-requires c κs = search needs
 
-flag-owners-requires : tie.Need-flag-owners-requires Inv-loop μ-loop
-flag-owners-requires c κs = omega arith
+slice-aggregate-show : tie.Need-slice-aggregate-show
+slice-aggregate-show c = search needs
 
-loop-holds : tie.Need-loop-holds Inv-loop μ-loop
-loop-holds c = (omega arith, refl, marked-none (c .before .before .flag-owners .ensures .row))
+show-requires : tie.Need-show-requires
+show-requires c κs = search needs
 
-flag-ready-by-requires : tie.Need-flag-ready-by-requires Inv-loop μ-loop
-flag-ready-by-requires c κs = (at-move (c .before .before .before .before .before .before .before .before .before .before .before .before .before .pre .0) _ _ (omega arith) (omega arith) _ (c .before .loop-test .taken), omega (arith, c .before .before .before .before .before .before .before .before .before .before .before .before .before .pre .0 .from-inside _ (c .before .loop-test .taken)))
+slice-aggregate-mark : tie.Need-slice-aggregate-mark
+slice-aggregate-mark c = search needs
 
-add-i : tie.Need-add-i Inv-loop μ-loop
-add-i c = omega arith
+slice-aggregate-mark-2 : tie.Need-slice-aggregate-mark-2
+slice-aggregate-mark-2 c = search needs
 
-loop-less : tie.Need-loop-less Inv-loop μ-loop
-loop-less c = omega arith
+slice-aggregate-mark-3 : tie.Need-slice-aggregate-mark-3
+slice-aggregate-mark-3 c = search needs
 
-loop-again : tie.Need-loop-again Inv-loop μ-loop
-loop-again c =
-    let w = c .before .before .before .before .before .before .before .before .before .before .before .before .before .before .before .before .pre .0 in
-    let at-loop = c .before .before .before .before .before in
-    (omega arith, omega arith, rw (c .before .before .flag-ready-by .ensures) (marked-next (at-loop .loop .inv .2) (omega (arith, at-loop)) (λ _. w .from-inside _ (c .before .before .before .before .loop-test .taken))))
+mark-requires : tie.Need-mark-requires
+mark-requires c κs = (c .before .before .before .before .before .before .before .before .before .before .before .before .before .before .before .pre .0, omega arith, omega arith, omega arith, omega arith, row-replicate 513 0 (omega arith))
 
-same-length : tie.Need-same-length Inv-loop μ-loop
-same-length c = omega arith
+slice-aggregate-turn : tie.Need-slice-aggregate-turn
+slice-aggregate-turn c = search needs
 
-returns : tie.Need-returns Inv-loop μ-loop
-returns c = rw (← le-antisymm (c .before .loop .inv .0) (c .loop-test .left)) (c .before .loop .inv .2)
+slice-aggregate-turn-2 : tie.Need-slice-aggregate-turn-2
+slice-aggregate-turn-2 c = search needs
+
+turn-requires : tie.Need-turn-requires
+turn-requires c κs = search needs
+
+same-length : tie.Need-same-length
+same-length c = search needs
+
+returns : tie.Need-returns
+returns c =
+    let marked = c .before .before .before .before .before .before .before .mark .ensures in
+    ready-marked (c .before .before .before .before .before .before .before .before .before .before .before .before .before .before .before .before .before .before .before .before .before .before .before .pre .0) _ _ _ _ (c .before .before .before .before .before .before .before .before .before .before .before .before .before .before .before .flag-owners .ensures .row) (c .before .before .before .before .before .before .before .before .before .before .before .before .show .ensures .row) marked (c .before .before .turn .ensures .row)
 
 pub flag-ready-spec : {M : Type 1} → statement M
 flag-ready-spec =
     tie.close
     (tie.spec
-    Inv-loop
-    μ-loop
+    slice-aggregate-flag-owners
     flag-owners-requires
-    loop-holds
-    flag-ready-by-requires
-    add-i
-    loop-less
-    loop-again
+    slice-aggregate-show
+    show-requires
+    slice-aggregate-mark
+    slice-aggregate-mark-2
+    slice-aggregate-mark-3
+    mark-requires
+    slice-aggregate-turn
+    slice-aggregate-turn-2
+    turn-requires
     same-length
     returns)

@@ -30,7 +30,7 @@ cast-loop : tie.Need-cast-loop Inv-loop μ-loop
 cast-loop c = omega arith
 
 flag-ready-requires : tie.Need-flag-ready-requires Inv-loop μ-loop
-flag-ready-requires c κs = (c .before .before .before .before .before .before .before .before .before .before .before .pre .0, omega arith, omega arith, omega arith)
+flag-ready-requires c κs = (c .before .before .before .before .before .before .before .before .before .before .before .pre .0, omega arith, omega arith, omega arith, omega arith)
 
 add-s : tie.Need-add-s Inv-loop μ-loop
 add-s c = omega arith
