@@ -1,6 +1,6 @@
 pub mod RowLaws
 pub mod Solve
-pub mod MarkLaws
+pub mod NoteLaws
 pub mod PlaceLaws
 pub mod Held
 pub mod HeldLaws

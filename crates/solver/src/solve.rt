@@ -115,7 +115,7 @@ fn show(n: usize, k: u16, values: &[u16], shows: &mut [u8])
     }
 }
 
-// Where a move leaves its mark: at the position that it leaves if it has the cost and meets what is sought, else past all positions.
+// Where a move leaves its note: at the position that it leaves if it has the cost and meets what is sought, else past all positions.
 fn spot(has: u8, cost: u8, seeks: u8, shows: u8, from: usize) -> usize
     ensures { λ r. ⌜ r ≡ spotIf (eqb has cost && eqb seeks shows) from ⌝ }
 {
@@ -125,9 +125,9 @@ fn spot(has: u8, cost: u8, seeks: u8, shows: u8, from: usize) -> usize
     if seeks == shows { from } else { 512 }
 }
 
-// Marks the position that the i-th move leaves, if the move has the cost and its target shows what the position seeks. Any other
-// move marks a place that nobody reads: the test goes either way at random, and a jump on it would cost more than the rest.
-fn mark_by(
+// Notes the position that the i-th move leaves, if the move has the cost and its target shows what the position seeks. Any other
+// move notes a place that nobody reads: the test goes either way at random, and a jump on it would cost more than the rest.
+fn note_by(
     i: usize,
     cost: u8,
     seeks: &[u8],
@@ -145,8 +145,8 @@ fn mark_by(
     found[spot(costs[i], cost, seeks[from], shows[to], from)] = 1;
 }
 
-// Marks every position that such a move leaves. No mark is there before.
-fn mark(
+// Notes every position that such a move leaves. No note is there before.
+fn note(
     n: usize,
     m: usize,
     cost: u8,
@@ -162,19 +162,19 @@ fn mark(
 {
     let mut i: usize = 0;
     while i < m {
-        mark_by(i, cost, seeks, shows, costs, froms, tos, found);
+        note_by(i, cost, seeks, shows, costs, froms, tos, found);
         i += 1;
     }
 }
 
-// The flag of a position: 1 if only one of the first flag and the mark is.
+// The flag of a position: 1 if only one of the first flag and the note is.
 fn turned(first: u8, found: u8) -> u8
     ensures { λ r. ⌜ r ≡ bit (not (eqb first found)) ⌝ }
 {
     if first == found { 0 } else { 1 }
 }
 
-// The flags: the first ones, turned over where a mark was left.
+// The flags: the first ones, turned over where a note was left.
 fn turn(n: usize, firsts: &[u8], found: &[u8], flags: &mut [u8])
     requires { ⌜ (n ≤ length (now firsts)) × (n ≤ length (now found)) × (n ≤ length (now flags)) ⌝ }
     ensures { λ _. ⌜ Filled (now (flags .entry)) (now (flags .exit)) n (λ v. bit (not (eqb (getD (now (firsts .entry)) v 0) (getD (now (found .entry)) v 0)))) ⌝ }
@@ -206,7 +206,7 @@ fn flag_ready(
     let mut found = [0u8; 513];
     flag_owners(n, owners, &mut firsts);
     show(n, NONE, values, &mut shows);
-    mark(n, m, 0, &firsts, &shows, costs, froms, tos, &mut found);
+    note(n, m, 0, &firsts, &shows, costs, froms, tos, &mut found);
     turn(n, &firsts, &found, flags);
 }
 
@@ -229,7 +229,7 @@ fn flag_disturbed(
     let mut shows = [0u8; 512];
     let mut found = [0u8; 513];
     show(n, k, values, &mut shows);
-    mark(n, m, 1, &ones, &shows, costs, froms, tos, &mut found);
+    note(n, m, 1, &ones, &shows, costs, froms, tos, &mut found);
     turn(n, &firsts, &found, flags);
 }
 

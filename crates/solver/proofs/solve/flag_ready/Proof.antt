@@ -1,15 +1,15 @@
--- `flag_ready` meets its contract: the first flags are what each position seeks, and a mark turns one over.
+-- `flag_ready` meets its contract: the first flags are what each position seeks, and a note turns one over.
 use Prim.Native.Nat.{ℕ, _+_, _-_, _≤_, _<_}
 use native.Mathlib.Omega.{arith}
 use borrow.Author.Needs.{needs}
 use lib.ListN.{length, getD, set, length-set}
-use Rattle.solver.specs.MarkLaws.{row-replicate, ready-marked}
+use Rattle.solver.specs.NoteLaws.{row-replicate, ready-marked}
 use Rattle.solver.proofs.solve.flag_ready.Statement.{statement}
 use Rattle.solver.proofs.solve.flag_ready.Tie as tie
 use Rattle.solver.proofs.solve.flag_ready.Reads as reads
 use Rattle.solver.proofs.solve.flag_ready.Lts as lts
 use Rattle.solver.proofs.solve.flag_owners.Reads as flag-owners-reads
-use Rattle.solver.proofs.solve.mark.Reads as mark-reads
+use Rattle.solver.proofs.solve.note.Reads as note-reads
 use Rattle.solver.proofs.solve.show.Reads as show-reads
 use Rattle.solver.proofs.solve.turn.Reads as turn-reads
 
@@ -25,17 +25,17 @@ slice-aggregate-show c = search needs
 show-requires : tie.Need-show-requires
 show-requires c κs = search needs
 
-slice-aggregate-mark : tie.Need-slice-aggregate-mark
-slice-aggregate-mark c = search needs
+slice-aggregate-note : tie.Need-slice-aggregate-note
+slice-aggregate-note c = search needs
 
-slice-aggregate-mark-2 : tie.Need-slice-aggregate-mark-2
-slice-aggregate-mark-2 c = search needs
+slice-aggregate-note-2 : tie.Need-slice-aggregate-note-2
+slice-aggregate-note-2 c = search needs
 
-slice-aggregate-mark-3 : tie.Need-slice-aggregate-mark-3
-slice-aggregate-mark-3 c = search needs
+slice-aggregate-note-3 : tie.Need-slice-aggregate-note-3
+slice-aggregate-note-3 c = search needs
 
-mark-requires : tie.Need-mark-requires
-mark-requires c κs = (c .before .before .before .before .before .before .before .before .before .before .before .before .before .before .before .pre .0, omega arith, omega arith, omega arith, omega arith, row-replicate 513 0 (omega arith))
+note-requires : tie.Need-note-requires
+note-requires c κs = (c .before .before .before .before .before .before .before .before .before .before .before .before .before .before .before .pre .0, omega arith, omega arith, omega arith, omega arith, row-replicate 513 0 (omega arith))
 
 slice-aggregate-turn : tie.Need-slice-aggregate-turn
 slice-aggregate-turn c = search needs
@@ -51,7 +51,7 @@ same-length c = search needs
 
 returns : tie.Need-returns
 returns c =
-    let marked = c .before .before .before .before .before .before .before .mark .ensures in
+    let marked = c .before .before .before .before .before .before .before .note .ensures in
     ready-marked (c .before .before .before .before .before .before .before .before .before .before .before .before .before .before .before .before .before .before .before .before .before .before .before .pre .0) _ _ _ _ (c .before .before .before .before .before .before .before .before .before .before .before .before .before .before .before .flag-owners .ensures .row) (c .before .before .before .before .before .before .before .before .before .before .before .before .show .ensures .row) marked (c .before .before .turn .ensures .row)
 
 pub flag-ready-spec : {M : Type 1} → statement M
@@ -62,10 +62,10 @@ flag-ready-spec =
     flag-owners-requires
     slice-aggregate-show
     show-requires
-    slice-aggregate-mark
-    slice-aggregate-mark-2
-    slice-aggregate-mark-3
-    mark-requires
+    slice-aggregate-note
+    slice-aggregate-note-2
+    slice-aggregate-note-3
+    note-requires
     slice-aggregate-turn
     slice-aggregate-turn-2
     turn-requires

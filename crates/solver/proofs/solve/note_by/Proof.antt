@@ -1,4 +1,4 @@
--- `mark_by` meets its contract: the mark is at a position or at 512, and so within the row.
+-- `note_by` meets its contract: the note is at a position or at 512, and so within the row.
 use Prim.Native.Nat.{ℕ, _+_, _-_, _≤_, _<_}
 use native.Mathlib.Omega.{arith}
 use borrow.Author.Needs.{needs}
@@ -6,10 +6,10 @@ use mathlib.Core.Path.{_≡_, refl, sym, _∙_}
 use lib.ListN.{length, getD, set, length-set}
 use Rattle.solver.specs.RowLaws.{spot-most}
 use Rattle.solver.specs.Solve.{meets}
-use Rattle.solver.proofs.solve.mark_by.Statement.{statement}
-use Rattle.solver.proofs.solve.mark_by.Tie as tie
-use Rattle.solver.proofs.solve.mark_by.Reads as reads
-use Rattle.solver.proofs.solve.mark_by.Lts as lts
+use Rattle.solver.proofs.solve.note_by.Statement.{statement}
+use Rattle.solver.proofs.solve.note_by.Tie as tie
+use Rattle.solver.proofs.solve.note_by.Reads as reads
+use Rattle.solver.proofs.solve.note_by.Lts as lts
 use Rattle.solver.proofs.solve.spot.Reads as spot-reads
 
 mul-from : tie.Need-mul-from
@@ -52,8 +52,8 @@ returns : tie.Need-returns
 unfolding meets
 returns c = rw (c .spot .ensures)
 
-pub mark-by-spec : {M : Type 1} → statement M
-mark-by-spec =
+pub note-by-spec : {M : Type 1} → statement M
+note-by-spec =
     tie.close
     (tie.spec
     mul-from

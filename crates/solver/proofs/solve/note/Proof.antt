@@ -1,4 +1,4 @@
--- `mark` meets its contract: the invariant says that the first i moves have left their marks, those aside past the n positions.
+-- `note` meets its contract: the invariant says that the first i moves have left their notes, those aside past the n positions.
 use Prim.Native.Nat.{ℕ, _+_, _-_, _≤_, _<_}
 use native.Mathlib.Nat.{le-antisymm}
 use native.Mathlib.Omega.{arith}
@@ -7,11 +7,11 @@ use mathlib.Core.Path.{_≡_, refl}
 use lib.ListN.{length, getD, set, length-set}
 use Rattle.solver.specs.RowLaws.{Marked, numberAt, marked-none, marked-aside}
 use Rattle.solver.specs.Solve.{AtMove, at-move, meets, bit}
-use Rattle.solver.proofs.solve.mark.Statement.{statement}
-use Rattle.solver.proofs.solve.mark.Tie as tie
-use Rattle.solver.proofs.solve.mark.Reads as reads
-use Rattle.solver.proofs.solve.mark.Lts as lts
-use Rattle.solver.proofs.solve.mark_by.Reads as mark-by-reads
+use Rattle.solver.proofs.solve.note.Statement.{statement}
+use Rattle.solver.proofs.solve.note.Tie as tie
+use Rattle.solver.proofs.solve.note.Reads as reads
+use Rattle.solver.proofs.solve.note.Lts as lts
+use Rattle.solver.proofs.solve.note_by.Reads as note-by-reads
 
 abbrev Inv-loop : tie.InvT-loop
 Inv-loop n m cost seeks shows costs froms tos found₀ i₀ found i =
@@ -23,8 +23,8 @@ abbrev μ-loop : tie.MeasureT-loop
 loop-holds : tie.Need-loop-holds Inv-loop μ-loop
 loop-holds c = (omega arith, refl, marked-none (c .before .before .before .before .before .before .pre .5))
 
-mark-by-requires : tie.Need-mark-by-requires Inv-loop μ-loop
-mark-by-requires c κs =
+note-by-requires : tie.Need-note-by-requires Inv-loop μ-loop
+note-by-requires c κs =
     let w = c .before .before .before .before .before .before .before .before .before .pre .0 in
     let inside = w .from-inside _ (c .before .loop-test .taken) in
     (at-move w _ _ (omega arith) (omega arith) _ (c .before .loop-test .taken), omega arith, omega arith)
@@ -39,7 +39,7 @@ loop-again : tie.Need-loop-again Inv-loop μ-loop
 loop-again c =
     let w = c .before .before .before .before .before .before .before .before .before .before .before .before .pre .0 in
     let at-loop = c .before .before .before .before .before in
-    (omega arith, omega arith, rw (c .before .before .mark-by .ensures) (marked-aside (at-loop .loop .inv .2) (omega (arith, at-loop)) (omega arith) (w .from-inside _ (c .before .before .before .before .loop-test .taken))))
+    (omega arith, omega arith, rw (c .before .before .note-by .ensures) (marked-aside (at-loop .loop .inv .2) (omega (arith, at-loop)) (omega arith) (w .from-inside _ (c .before .before .before .before .loop-test .taken))))
 
 same-length : tie.Need-same-length Inv-loop μ-loop
 same-length c = omega arith
@@ -47,14 +47,14 @@ same-length c = omega arith
 returns : tie.Need-returns Inv-loop μ-loop
 returns c = rw (← le-antisymm (c .before .loop .inv .0) (c .loop-test .left)) (c .before .loop .inv .2)
 
-pub mark-spec : {M : Type 1} → statement M
-mark-spec =
+pub note-spec : {M : Type 1} → statement M
+note-spec =
     tie.close
     (tie.spec
     Inv-loop
     μ-loop
     loop-holds
-    mark-by-requires
+    note-by-requires
     add-i
     loop-less
     loop-again
