@@ -9,7 +9,7 @@ use Rattle.field.specs.declared.Field.{Field}
 use Rattle.field.specs.declared.Field.the-variants.{Number, Bad}
 use Rattle.chart.specs.Text.{firstAt, secondAt, numberOf, fromAt, toAt}
 
-number-small : (text : List ℕ) (at : ℕ) → numberOf (fieldAt text at) ≤ 99999
+pub number-small : (text : List ℕ) (at : ℕ) → numberOf (fieldAt text at) ≤ 99999
 unfolding numberOf fieldAt five
 number-small text at = go (fieldAt text at) refl
   where

@@ -3,11 +3,11 @@
 // refusal's condition in specs/Refusals.antt.
 ghost use mathlib.Core.Path.{_≡_};
 ghost use mathlib.Core.Bool.{cond};
-ghost use Prim.Native.Nat.{ℕ, _+_, _*_, _≤_, _<_};
+ghost use Prim.Native.Nat.{ℕ, _+_, _-_, _*_, _≤_, _<_};
 ghost use lib.ListN.{length, getD};
 ghost use Rattle.chart.specs.Text.{letterAt, markAt, fromAt, toAt, numberOf, isNumber};
 ghost use Rattle.chart.specs.Meaning.{costOf};
-ghost use Rattle.chart.specs.Examined.{numbered, formed, headerOf, limitsOf, positionFinding, judgedPosition, moveFinding, judgedMove, ordered, rises, above, lineFinding, firstOf, meantLine, meantIn, missingAt, unflaggedAt, afterHeader, examined};
+ghost use Rattle.chart.specs.Examined.{numbered, formed, headerOf, limitsOf, positionFinding, judgedPosition, moveFinding, judgedMove, ordered, above, lineFinding, firstOf, meantLine, meantIn, missingAt, unflaggedAt, afterHeader, examined};
 use field::Field;
 use field::read;
 use refusal::Refusal;
@@ -147,16 +147,10 @@ fn position_fault(text: &[u8], line: usize) -> Finding
     ensures { λ r. ⌜ r ≡ positionFinding (now (text .entry)) line ⌝ }
 {
     let at = line * Chart::LINE;
+    let first = read(text, at + 1);
     let mark = mark_at(text, line);
-    let ok = formed(
-        text[at],
-        read(text, at + 1),
-        mark,
-        text[at + 11],
-        b'O',
-        b'L',
-    );
-    judge_position(ok, line, from_at(text, line), number(mark))
+    let ok = formed(text[at], first, mark, text[at + 11], b'O', b'L');
+    judge_position(ok, line, number(first), number(mark))
 }
 
 fn judge_position(ok: bool, line: usize, position: usize, mark: usize) -> Finding
@@ -182,26 +176,14 @@ fn move_fault(text: &[u8], n: usize, line: usize) -> Finding
 {
     let at = line * Chart::LINE;
     let letter = text[at];
-    let ok = formed(
-        letter,
-        read(text, at + 1),
-        read(text, at + 6),
-        text[at + 11],
-        b'M',
-        b'D',
-    );
-    let from = from_at(text, line);
+    let first = read(text, at + 1);
+    let second = read(text, at + 6);
+    let ok = formed(letter, first, second, text[at + 11], b'M', b'D');
+    let from = number(first);
+    let to = number(second);
     let owner = letter_at(text, from + 1);
-    judge_move(
-        ok,
-        n,
-        line,
-        letter,
-        from,
-        to_at(text, line),
-        owner,
-        rise(text, line),
-    )
+    let rises = rise(text, line, from, cost(letter), to);
+    judge_move(ok, n, line, letter, from, to, owner, rises)
 }
 
 fn judge_move(
@@ -250,21 +232,20 @@ fn judge_order(n: usize, line: usize, rises: bool) -> Finding
     }
 }
 
-// Whether the move on a line is above the one before.
-fn rise(text: &[u8], line: usize) -> bool
+// Whether the move on a line, its numbers given, is above the one before.
+fn rise(text: &[u8], line: usize, from: usize, cost1: u8, to: usize) -> bool
     requires { ⌜ (1 ≤ line) × ((line + 1) * 12 ≤ length (now text)) ⌝ }
-    ensures { λ r. ⌜ r ≡ rises (now (text .entry)) line ⌝ }
+    ensures { λ r. ⌜ r ≡ above (fromAt (now (text .entry)) (line - 1)) (costOf (letterAt (now (text .entry)) (line - 1))) (toAt (now (text .entry)) (line - 1)) from cost1 to ⌝ }
 {
     let before = line - 1;
     let cost0 = cost(text[before * Chart::LINE]);
-    let cost1 = cost(text[line * Chart::LINE]);
     above(
         from_at(text, before),
         cost0,
         to_at(text, before),
-        from_at(text, line),
+        from,
         cost1,
-        to_at(text, line),
+        to,
     )
 }
 

@@ -1,6 +1,5 @@
--- `chart::rise` meets its contract: the columns are read, and `above` compares them.
+-- `chart::rise` meets its contract: the columns of the line before are read, and `above` compares them.
 use Rattle.chart.specs.Text.{letterAt}
-use Rattle.chart.specs.Examined.{rises}
 use borrow.Author.Needs.{needs}
 use Rattle.chart.proofs.rise.Statement.{statement}
 use Rattle.chart.proofs.rise.Tie as tie
@@ -21,32 +20,17 @@ shared-slice-read-cost c = search needs
 cost-requires : tie.Need-cost-requires
 cost-requires c κs = search needs
 
-mul-cost-2 : tie.Need-mul-cost-2
-mul-cost-2 c = search needs
-
-shared-slice-read-cost-2 : tie.Need-shared-slice-read-cost-2
-shared-slice-read-cost-2 c = search needs
-
-cost-requires-2 : tie.Need-cost-requires-2
-cost-requires-2 c κs = search needs
-
 from-at-requires : tie.Need-from-at-requires
 from-at-requires c κs = search needs
 
 to-at-requires : tie.Need-to-at-requires
 to-at-requires c κs = search needs
 
-from-at-requires-2 : tie.Need-from-at-requires-2
-from-at-requires-2 c κs = search needs
-
-to-at-requires-2 : tie.Need-to-at-requires-2
-to-at-requires-2 c κs = search needs
-
 above-requires : tie.Need-above-requires
 above-requires c κs = search needs
 
 returns : tie.Need-returns
-unfolding rises letterAt
+unfolding letterAt
 returns c = cc
 
 pub rise-spec : {M : Type 1} → statement M
@@ -57,12 +41,7 @@ rise-spec =
     mul-cost
     shared-slice-read-cost
     cost-requires
-    mul-cost-2
-    shared-slice-read-cost-2
-    cost-requires-2
     from-at-requires
     to-at-requires
-    from-at-requires-2
-    to-at-requires-2
     above-requires
     returns)
