@@ -54,22 +54,9 @@ starts b bs r =
     let same : b - 48 ≡ 0 * 10 + (b - 48) = omega arith in
     (ap (λ (x : ℕ). ended (scan (Digits x) bs)) same ∙ goes 0 0 b bs (omega arith) (omega arith) r .0, omega (arith, r .1))
 
-alone : (x : ℕ) → Number x ≡ ended (scan (Digits x) [])
+pub spells : (x : ℕ) → Number x ≡ ended (scan (Digits x) [])
 unfolding scan ended
-alone x = refl
-
--- five digits, 48 more each in bytes
-pub spelled : (a b c d e : ℕ) → (48 ≤ a) × (a ≤ 57) → (48 ≤ b) × (b ≤ 57) → (48 ≤ c) × (c ≤ 57) → (48 ≤ d) × (d ≤ 57) → (48 ≤ e) × (e ≤ 57) →
-    Number ((((a * 10 + b) * 10 + c) * 10 + d) * 10 + e - 533328) ≡ ended (scan (Digits 0) (a ∷ b ∷ c ∷ d ∷ e ∷ []))
-spelled a b c d e ra rb rc rd re =
-    let pa = starts a (b ∷ c ∷ d ∷ e ∷ []) ra in
-    let pb = goes (a - 48) 9 b (c ∷ d ∷ e ∷ []) (pa .1) (omega arith) rb in
-    let pc = goes _ 99 c (d ∷ e ∷ []) (pb .1) (omega arith) rc in
-    let pd = goes _ 999 d (e ∷ []) (pc .1) (omega arith) rd in
-    let pe = goes _ 9999 e [] (pd .1) (omega arith) re in
-    let sum : (((a * 10 + b) * 10 + c) * 10 + d) * 10 + e - 533328 ≡ ((((a - 48) * 10 + (b - 48)) * 10 + (c - 48)) * 10 + (d - 48)) * 10 + (e - 48) =
-    omega (arith, ra .0, rb .0, rc .0, rd .0, re .0) in
-    ap Number sum ∙ alone _ ∙ pe .0 ∙ pd .0 ∙ pc .0 ∙ pb .0 ∙ pa .0
+spells x = refl
 
 -- a zero before the digits adds nothing
 pub zero-adds : (bs : List ℕ) → scan (Digits 0) (48 ∷ bs) ≡ scan (Digits 0) bs

@@ -3,7 +3,7 @@
 ghost use mathlib.Core.Path.{_≡_};
 ghost use mathlib.Core.Bool.{cond};
 ghost use mathlib.Core.List.{[], _∷_};
-ghost use Prim.Native.Nat.{_+_, _≤_, _<_};
+ghost use Prim.Native.Nat.{_+_, _-_, _≤_, _<_};
 ghost use lib.ListN.{length};
 ghost use lib.Dec.{eqb};
 ghost use Rattle.field.specs.Text.{Digits, scan, ended, fieldAt, withNumber, placeByte};
@@ -26,16 +26,16 @@ pub fn read(text: &[u8], at: usize) -> Field
     let d = text[at + 3];
     let e = text[at + 4];
     if a != b' ' {
-        return led(a, a, b, c, d, e);
+        return leading(a, digits(a, b, c, d, e));
     }
     if b != b' ' {
-        return led(b, b'0', b, c, d, e);
+        return leading(b, digits(b'0', b, c, d, e));
     }
     if c != b' ' {
-        return led(c, b'0', b'0', c, d, e);
+        return leading(c, digits(b'0', b'0', c, d, e));
     }
     if d != b' ' {
-        return led(d, b'0', b'0', b'0', d, e);
+        return leading(d, digits(b'0', b'0', b'0', d, e));
     }
     if e != b' ' {
         return digits(b'0', b'0', b'0', b'0', e);
@@ -56,17 +56,17 @@ pub fn write(x: u32, text: &mut [u8], at: usize)
     text[at + 4] = (48 + x % 10) as u8;
 }
 
-// The number that five digits spell, of which the first that counts is no zero.
-fn led(first: u8, a: u8, b: u8, c: u8, d: u8, e: u8) -> Field
-    ensures { λ r. ⌜ r ≡ cond (eqb first 48) Field.Bad (ended (scan (Digits 0) (a ∷ b ∷ c ∷ d ∷ e ∷ []))) ⌝ }
+// What a field of two digits or more reads as, from its first digit and its number: no leading zero.
+fn leading(first: u8, f: Field) -> Field
+    ensures { λ r. ⌜ r ≡ cond (eqb first 48) Field.Bad f ⌝ }
 {
     if first == b'0' {
         return Field::Bad;
     }
-    digits(a, b, c, d, e)
+    f
 }
 
-// The number that five digits spell. The bytes of "00000", taken for digits, would spell 533,328.
+// The number that five digits spell.
 fn digits(a: u8, b: u8, c: u8, d: u8, e: u8) -> Field
     ensures { λ r. ⌜ r ≡ ended (scan (Digits 0) (a ∷ b ∷ c ∷ d ∷ e ∷ [])) ⌝ }
 {
@@ -85,10 +85,10 @@ fn digits(a: u8, b: u8, c: u8, d: u8, e: u8) -> Field
     if !digit(e) {
         return Field::Bad;
     }
-    let ab = a as u32 * 10 + b as u32;
-    let abc = ab * 10 + c as u32;
-    let abcd = abc * 10 + d as u32;
-    Field::Number(abcd * 10 + e as u32 - 533328)
+    let ab = value(a) * 10 + value(b);
+    let abc = ab * 10 + value(c);
+    let abcd = abc * 10 + value(d);
+    Field::Number(abcd * 10 + value(e))
 }
 
 // Whether a byte is a digit.
@@ -99,6 +99,14 @@ fn digit(b: u8) -> bool
         return false;
     }
     b <= b'9'
+}
+
+// What a digit is worth.
+fn value(b: u8) -> u32
+    requires { ⌜ 48 ≤ b ⌝ }
+    ensures { λ r. ⌜ r ≡ b - 48 ⌝ }
+{
+    (b - b'0') as u32
 }
 
 // The byte in the place of `unit`, 10 to 10,000: a space before the number's first digit.

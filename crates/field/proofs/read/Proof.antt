@@ -1,5 +1,5 @@
 -- `field::read` meets its contract: spaces before the first digit change nothing (`space`), and from that digit on `fieldOf` is what
--- `led` and `digits` answer (`lead`, `last`).
+-- `leading` and `digits` answer (`lead`, `last`).
 use mathlib.Core.Path.{sym, _∙_}
 use borrow.Author.Tests.{ne-eqb}
 use Rattle.field.specs.Text.{fieldAt, five}
@@ -8,7 +8,7 @@ use borrow.Author.Needs.{needs}
 use Rattle.field.proofs.read.Statement.{statement}
 use Rattle.field.proofs.read.Tie as tie
 use Rattle.field.proofs.digits.Reads as digits-reads
-use Rattle.field.proofs.led.Reads as led-reads
+use Rattle.field.proofs.leading.Reads as leading-reads
 
 shared-slice-read-a : tie.Need-shared-slice-read-a
 shared-slice-read-a c = search needs
@@ -37,40 +37,52 @@ add-e c = search needs
 shared-slice-read-e : tie.Need-shared-slice-read-e
 shared-slice-read-e c = search needs
 
-led-requires : tie.Need-led-requires
-led-requires c κs = search needs
-
-returns : tie.Need-returns
-unfolding fieldAt five
-returns c = rw (c .led .ensures) (sym (lead _ _ _ (ne-eqb _ _ (c .before .if1 .taken))))
-
-led-requires-2 : tie.Need-led-requires-2
-led-requires-2 c κs = search needs
-
-returns-2 : tie.Need-returns-2
-unfolding fieldAt five
-returns-2 c = rw (simp zero-adds at (c .led2 .ensures)) (sym (space _ _ (c .before .before .if1 .left) ∙ lead _ _ _ (ne-eqb _ _ (c .before .if2 .taken))))
-
-led-requires-3 : tie.Need-led-requires-3
-led-requires-3 c κs = search needs
-
-returns-3 : tie.Need-returns-3
-unfolding fieldAt five
-returns-3 c = rw (simp zero-adds at (c .led3 .ensures)) (sym (space _ _ (c .before .before .before .if1 .left) ∙ space _ _ (c .before .before .if2 .left) ∙ lead _ _ _ (ne-eqb _ _ (c .before .if3 .taken))))
-
-led-requires-4 : tie.Need-led-requires-4
-led-requires-4 c κs = search needs
-
-returns-4 : tie.Need-returns-4
-unfolding fieldAt five
-returns-4 c = rw (simp zero-adds at (c .led4 .ensures)) (sym (space _ _ (c .before .before .before .before .if1 .left) ∙ space _ _ (c .before .before .before .if2 .left) ∙ space _ _ (c .before .before .if3 .left) ∙ lead _ _ _ (ne-eqb _ _ (c .before .if4 .taken))))
-
 digits-requires : tie.Need-digits-requires
 digits-requires c κs = search needs
 
+leading-requires : tie.Need-leading-requires
+leading-requires c κs = search needs
+
+returns : tie.Need-returns
+unfolding fieldAt five
+returns c = rw (c .leading .ensures, c .before .digits .ensures) (sym (lead _ _ _ (ne-eqb _ _ (c .before .before .if1 .taken))))
+
+digits-requires-2 : tie.Need-digits-requires-2
+digits-requires-2 c κs = search needs
+
+leading-requires-2 : tie.Need-leading-requires-2
+leading-requires-2 c κs = search needs
+
+returns-2 : tie.Need-returns-2
+unfolding fieldAt five
+returns-2 c = rw (c .leading2 .ensures, simp zero-adds at (c .before .digits2 .ensures)) (sym (space _ _ (c .before .before .before .if1 .left) ∙ lead _ _ _ (ne-eqb _ _ (c .before .before .if2 .taken))))
+
+digits-requires-3 : tie.Need-digits-requires-3
+digits-requires-3 c κs = search needs
+
+leading-requires-3 : tie.Need-leading-requires-3
+leading-requires-3 c κs = search needs
+
+returns-3 : tie.Need-returns-3
+unfolding fieldAt five
+returns-3 c = rw (c .leading3 .ensures, simp zero-adds at (c .before .digits3 .ensures)) (sym (space _ _ (c .before .before .before .before .if1 .left) ∙ space _ _ (c .before .before .before .if2 .left) ∙ lead _ _ _ (ne-eqb _ _ (c .before .before .if3 .taken))))
+
+digits-requires-4 : tie.Need-digits-requires-4
+digits-requires-4 c κs = search needs
+
+leading-requires-4 : tie.Need-leading-requires-4
+leading-requires-4 c κs = search needs
+
+returns-4 : tie.Need-returns-4
+unfolding fieldAt five
+returns-4 c = rw (c .leading4 .ensures, simp zero-adds at (c .before .digits4 .ensures)) (sym (space _ _ (c .before .before .before .before .before .if1 .left) ∙ space _ _ (c .before .before .before .before .if2 .left) ∙ space _ _ (c .before .before .before .if3 .left) ∙ lead _ _ _ (ne-eqb _ _ (c .before .before .if4 .taken))))
+
+digits-requires-5 : tie.Need-digits-requires-5
+digits-requires-5 c κs = search needs
+
 returns-5 : tie.Need-returns-5
 unfolding fieldAt five
-returns-5 c = rw (simp zero-adds at (c .digits .ensures)) (sym (space _ _ (c .before .before .before .before .before .if1 .left) ∙ space _ _ (c .before .before .before .before .if2 .left) ∙ space _ _ (c .before .before .before .if3 .left) ∙ space _ _ (c .before .before .if4 .left) ∙ last _ (ne-eqb _ _ (c .before .if5 .taken))))
+returns-5 c = rw (simp zero-adds at (c .digits5 .ensures)) (sym (space _ _ (c .before .before .before .before .before .if1 .left) ∙ space _ _ (c .before .before .before .before .if2 .left) ∙ space _ _ (c .before .before .before .if3 .left) ∙ space _ _ (c .before .before .if4 .left) ∙ last _ (ne-eqb _ _ (c .before .if5 .taken))))
 
 returns-6 : tie.Need-returns-6
 unfolding fieldAt five
@@ -89,14 +101,18 @@ read-spec =
     shared-slice-read-d
     add-e
     shared-slice-read-e
-    led-requires
-    returns
-    led-requires-2
-    returns-2
-    led-requires-3
-    returns-3
-    led-requires-4
-    returns-4
     digits-requires
+    leading-requires
+    returns
+    digits-requires-2
+    leading-requires-2
+    returns-2
+    digits-requires-3
+    leading-requires-3
+    returns-3
+    digits-requires-4
+    leading-requires-4
+    returns-4
+    digits-requires-5
     returns-5
     returns-6)
