@@ -6,6 +6,7 @@ ghost use mathlib.Core.Bool.{cond};
 ghost use Prim.Native.Nat.{ℕ, _+_, _-_, _*_, _≤_, _<_};
 ghost use lib.ListN.{length, getD};
 ghost use Rattle.chart.specs.Text.{letterAt, markAt, fromAt, toAt, numberOf, isNumber};
+ghost use Rattle.chart.specs.Columns.{rowAt};
 ghost use Rattle.chart.specs.Meaning.{costOf};
 ghost use Rattle.chart.specs.Examined.{numbered, formed, headerOf, limitsOf, positionFinding, judgedPosition, moveFinding, judgedMove, ordered, above, lineFinding, firstOf, meantLine, meantIn, missingAt, unflaggedAt, afterHeader, examined};
 use field::Field;
@@ -39,6 +40,14 @@ pub enum Examination {
 enum Finding {
     Clean,
     Fault(Refusal),
+}
+
+// The columns of a line: its letter, its two fields and its last byte.
+struct Row {
+    letter: u8,
+    first: Field,
+    second: Field,
+    end: u8,
 }
 
 // The counts of a chart, or the first refusal in document 01's order.
@@ -114,31 +123,51 @@ fn after_header(text: &[u8], chart: Chart) -> Examination
     }
 }
 
-// The first fault on lines 1 to `last`, of which the first n are positions.
+// The first fault on lines 1 to `last`, of which the first n are positions. Each line's columns serve the next line too.
 fn first_fault(text: &[u8], n: usize, last: usize) -> Finding
     requires { ⌜ (n ≤ last) × ((last + 1) * 12 ≤ length (now text)) ⌝ }
     ensures { λ r. ⌜ r ≡ firstOf (lineFinding (now (text .entry)) n) last 1 ⌝ }
 {
     let mut line = 1;
+    let mut before = row_at(text, 0);
     while line <= last {
-        match line_fault(text, n, line) {
+        let row = row_at(text, line);
+        match line_fault(text, n, line, row, before) {
             Finding::Fault(r) => return Finding::Fault(r),
             Finding::Clean => {}
         }
+        before = row;
         line += 1;
     }
     Finding::Clean
 }
 
-// The fault of one line.
-fn line_fault(text: &[u8], n: usize, line: usize) -> Finding
-    requires { ⌜ (1 ≤ line) × ((n + 1) * 12 ≤ length (now text)) × ((line + 1) * 12 ≤ length (now text)) ⌝ }
+// The columns of a line.
+fn row_at(text: &[u8], line: usize) -> Row
+    requires { ⌜ (line + 1) * 12 ≤ length (now text) ⌝ }
+    ensures { λ r. ⌜ r ≡ rowAt (now (text .entry)) line ⌝ }
+{
+    let at = line * Chart::LINE;
+    let first = read(text, at + 1);
+    let second = read(text, at + 6);
+    Row {
+        letter: text[at],
+        first: first,
+        second: second,
+        end: text[at + 11],
+    }
+}
+
+// The fault of one line, from its columns and those of the line before.
+fn line_fault(text: &[u8], n: usize, line: usize, row: Row, before: Row) -> Finding
+    requires { ⌜ (1 ≤ line) × ((line + 1) * 12 ≤ length (now text)) ⌝ }
+    requires { ⌜ (row ≡ rowAt (now text) line) × (before ≡ rowAt (now text) (line - 1)) ⌝ }
     ensures { λ r. ⌜ r ≡ lineFinding (now (text .entry)) n line ⌝ }
 {
     if line <= n {
         position_fault(text, line)
     } else {
-        move_fault(text, n, line)
+        move_fault(text, n, line, row, before)
     }
 }
 
@@ -169,20 +198,20 @@ fn judge_position(ok: bool, line: usize, position: usize, mark: usize) -> Findin
     Finding::Clean
 }
 
-// A move line after n positions. The line before is read again, so that nothing is carried from line to line.
-fn move_fault(text: &[u8], n: usize, line: usize) -> Finding
-    requires { ⌜ (1 ≤ line) × ((n + 1) * 12 ≤ length (now text)) × ((line + 1) * 12 ≤ length (now text)) ⌝ }
+// A move line after n positions, from its columns and those of the line before.
+fn move_fault(text: &[u8], n: usize, line: usize, row: Row, before: Row) -> Finding
+    requires { ⌜ 1 ≤ line ⌝ }
+    requires { ⌜ (row ≡ rowAt (now text) line) × (before ≡ rowAt (now text) (line - 1)) ⌝ }
     ensures { λ r. ⌜ r ≡ moveFinding (now (text .entry)) n line ⌝ }
 {
-    let at = line * Chart::LINE;
-    let letter = text[at];
-    let first = read(text, at + 1);
-    let second = read(text, at + 6);
-    let ok = formed(letter, first, second, text[at + 11], b'M', b'D');
+    let letter = row.letter;
+    let first = row.first;
+    let second = row.second;
+    let ok = formed(letter, first, second, row.end, b'M', b'D');
     let from = number(first);
     let to = number(second);
     let owner = letter_at(text, from + 1);
-    let rises = rise(text, line, from, cost(letter), to);
+    let rises = rise(before, from, cost(letter), to);
     judge_move(ok, n, line, letter, from, to, owner, rises)
 }
 
@@ -232,17 +261,16 @@ fn judge_order(n: usize, line: usize, rises: bool) -> Finding
     }
 }
 
-// Whether the move on a line, its numbers given, is above the one before.
-fn rise(text: &[u8], line: usize, from: usize, cost1: u8, to: usize) -> bool
-    requires { ⌜ (1 ≤ line) × ((line + 1) * 12 ≤ length (now text)) ⌝ }
-    ensures { λ r. ⌜ r ≡ above (fromAt (now (text .entry)) (line - 1)) (costOf (letterAt (now (text .entry)) (line - 1))) (toAt (now (text .entry)) (line - 1)) from cost1 to ⌝ }
+// Whether a move is above the one on the line before.
+fn rise(before: Row, from: usize, cost1: u8, to: usize) -> bool
+    ensures { λ r. ⌜ r ≡ above (numberOf (before .first)) (costOf (before .letter)) (numberOf (before .second)) from cost1 to ⌝ }
 {
-    let before = line - 1;
-    let cost0 = cost(text[before * Chart::LINE]);
+    let first = before.first;
+    let second = before.second;
     above(
-        from_at(text, before),
-        cost0,
-        to_at(text, before),
+        number(first),
+        cost(before.letter),
+        number(second),
         from,
         cost1,
         to,
