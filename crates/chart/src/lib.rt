@@ -2,13 +2,13 @@
 // accepted one is decoded into rows of numbers, on which every job works. What a text means is in specs/Meaning.antt, each
 // refusal's condition in specs/Refusals.antt.
 ghost use mathlib.Core.Path.{_≡_};
-ghost use mathlib.Core.Bool.{cond};
+ghost use mathlib.Core.Bool.{cond, false};
 ghost use Prim.Native.Nat.{ℕ, _+_, _-_, _*_, _≤_, _<_};
 ghost use lib.ListN.{length, getD};
 ghost use Rattle.chart.specs.Text.{letterAt, markAt, fromAt, toAt, numberOf, isNumber};
-ghost use Rattle.chart.specs.Columns.{rowAt};
+ghost use Rattle.chart.specs.Columns.{rowAt, meantRow};
 ghost use Rattle.chart.specs.Meaning.{costOf};
-ghost use Rattle.chart.specs.Examined.{numbered, formed, headerOf, limitsOf, positionFinding, judgedPosition, moveFinding, judgedMove, ordered, above, lineFinding, firstOf, meantLine, meantIn, missingAt, unflaggedAt, afterHeader, examined};
+ghost use Rattle.chart.specs.Examined.{numbered, formed, headerOf, limitsOf, positionFinding, judgedPosition, moveFinding, judgedMove, ordered, above, lineFinding, firstOf, meantIn, unflaggedAt, afterHeader, examined};
 use field::Field;
 use field::read;
 use refusal::Refusal;
@@ -106,7 +106,7 @@ fn limits(ok: bool, size: usize, n: usize, m: usize) -> Examination
     })
 }
 
-// The lines after a header with these counts, and then that each position has a meant move.
+// The lines after a header with these counts, and then that each position has a meant move: the lines' flags tell.
 fn after_header(text: &[u8], chart: Chart) -> Examination
     requires { ⌜ (1 + chart .positions + chart .moves) * 12 ≤ length (now text) ⌝ }
     requires { ⌜ (chart .positions ≤ 512) × (chart .moves ≤ 4096) ⌝ }
@@ -114,9 +114,10 @@ fn after_header(text: &[u8], chart: Chart) -> Examination
 {
     let n = chart.positions;
     let m = chart.moves;
-    match first_fault(text, n, n + m) {
+    let mut flags = [0u8; Chart::POSITIONS];
+    match first_fault(text, n, n + m, &mut flags) {
         Finding::Fault(r) => Examination::Refused(r),
-        Finding::Clean => match missing(text, n, m) {
+        Finding::Clean => match unflagged(&flags, n) {
             Finding::Fault(r) => Examination::Refused(r),
             Finding::Clean => Examination::Accepted(chart),
         },
@@ -124,9 +125,10 @@ fn after_header(text: &[u8], chart: Chart) -> Examination
 }
 
 // The first fault on lines 1 to `last`, of which the first n are positions. Each line's columns serve the next line too.
-fn first_fault(text: &[u8], n: usize, last: usize) -> Finding
+// Where there is no fault, a 1 for each position that a meant move is from; the other flags stay.
+fn first_fault(text: &[u8], n: usize, last: usize, flags: &mut [u8]) -> Finding
     requires { ⌜ (n ≤ last) × ((last + 1) * 12 ≤ length (now text)) ⌝ }
-    ensures { λ r. ⌜ r ≡ firstOf (lineFinding (now (text .entry)) n) last 1 ⌝ }
+    ensures { λ r. ⌜ (r ≡ firstOf (lineFinding (now (text .entry)) n) last 1) × (r ≡ Finding.Clean → (v : ℕ) → v < length (now (flags .entry)) → getD (now (flags .exit)) v 0 ≡ cond (meantIn (now (text .entry)) n (last - n) v) 1 (getD (now (flags .entry)) v 0)) ⌝ }
 {
     let mut line = 1;
     let mut before = row_at(text, 0);
@@ -136,6 +138,7 @@ fn first_fault(text: &[u8], n: usize, last: usize) -> Finding
             Finding::Fault(r) => return Finding::Fault(r),
             Finding::Clean => {}
         }
+        flag_row(n < line, row, flags);
         before = row;
         line += 1;
     }
@@ -303,16 +306,6 @@ pub fn cost(letter: u8) -> u8
     if letter == b'D' { 1 } else { 0 }
 }
 
-// The lowest position without a meant move. One pass over the moves flags the positions that have one.
-fn missing(text: &[u8], n: usize, m: usize) -> Finding
-    requires { ⌜ (n ≤ 512) × ((1 + n + m) * 12 ≤ length (now text)) ⌝ }
-    ensures { λ r. ⌜ r ≡ firstOf (missingAt (now (text .entry)) n m) n 0 ⌝ }
-{
-    let mut flags = [0u8; Chart::POSITIONS];
-    flag_meant(text, n, m, &mut flags);
-    unflagged(&flags, n)
-}
-
 // A line's letter is one of two, its fields are numbers, and a line feed ends it.
 fn formed(letter: u8, first: Field, second: Field, end: u8, a: u8, b: u8) -> bool
     ensures { λ r. ⌜ r ≡ formed letter first second end a b ⌝ }
@@ -338,27 +331,17 @@ fn numbered(first: Field, second: Field, end: u8) -> bool
     }
 }
 
-// A 1 for each position that one of the m moves after n positions is a meant move from; the other flags stay.
-fn flag_meant(text: &[u8], n: usize, m: usize, flags: &mut [u8])
-    requires { ⌜ (1 + n + m) * 12 ≤ length (now text) ⌝ }
-    ensures { λ _. ⌜ ((v : ℕ) → v < length (now (flags .entry)) → getD (now (flags .exit)) v 0 ≡ cond (meantIn (now (text .entry)) n m v) 1 (getD (now (flags .entry)) v 0)) ⌝ }
+// A 1 for the position that a meant move is from. A position's line is no move.
+fn flag_row(moves: bool, row: Row, flags: &mut [u8])
+    ensures { λ _. ⌜ ((v : ℕ) → v < length (now (flags .entry)) → getD (now (flags .exit)) v 0 ≡ cond (cond moves (meantRow row v) false) 1 (getD (now (flags .entry)) v 0)) ⌝ }
 {
-    let mut k = 0;
-    while k < m {
-        flag_line(text, n + 1 + k, flags);
-        k += 1;
-    }
-}
-
-// A 1 for the position that a line is a meant move from.
-fn flag_line(text: &[u8], line: usize, flags: &mut [u8])
-    requires { ⌜ (line + 1) * 12 ≤ length (now text) ⌝ }
-    ensures { λ _. ⌜ ((v : ℕ) → v < length (now (flags .entry)) → getD (now (flags .exit)) v 0 ≡ cond (meantLine (now (text .entry)) line v) 1 (getD (now (flags .entry)) v 0)) ⌝ }
-{
-    if text[line * Chart::LINE] == b'M' {
-        let from = from_at(text, line);
-        if from < flags.len() {
-            flags[from] = 1;
+    if moves {
+        if row.letter == b'M' {
+            let first = row.first;
+            let from = number(first);
+            if from < flags.len() {
+                flags[from] = 1;
+            }
         }
     }
 }
