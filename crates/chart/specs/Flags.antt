@@ -1,14 +1,16 @@
 -- Laws of the row of flags by which the positions without a meant move are found.
-use Prim.Native.Nat.{ℕ, zero, suc, _+_, _<_}
+use Prim.Native.Nat.{ℕ, zero, suc, _+_, _-_, _≤_, _<_}
+use native.Mathlib.Omega.{arith}
 use native.Mathlib.Numerals.{add-one}
-use mathlib.Core.Path.{_≡_, refl, sym, subst}
+use mathlib.Core.Path.{_≡_, refl, sym, ap, _∙_, subst}
 use mathlib.Core.Bool.{Bool, true, false, cond}
 use mathlib.Core.List.{List}
 use lib.ListN.{length, getD, set, replicate}
 use lib.Seq.{getD-set-same, getD-set-other}
-use lib.Dec.{eqb}
-use borrow.Author.Tests.{eqb-true, eqb-false}
-use Rattle.chart.specs.Examined.{meantLine, meantIn, missingAt, unflaggedAt}
+use lib.Dec.{ltb, eqb}
+use borrow.Author.Tests.{ltb-true, ltb-false, eqb-true, eqb-false}
+use Rattle.chart.specs.Examined.{meantLine, firstOf, meantIn, missingAt, unflaggedAt}
+use Rattle.chart.specs.First.{first-same}
 use Rattle.refusal.specs.declared.Refusal.the-variants.{NoMeant}
 use Rattle.chart.specs.declared.Finding.the-variants.{Clean, Fault}
 
@@ -31,6 +33,23 @@ flag-more text n k v old = rw (add-one k) (both (meantLine text (n + 1 + k) v) (
     both false true = refl
     both false false = refl
 
+-- the same by the line, where the first n are no moves
+pub flag-next : (text : List ℕ) (n line v old : ℕ) → 1 ≤ line → cond (cond (ltb n line) (meantLine text line v) false) 1 (cond (meantIn text n (line - 1 - n) v) 1 old) ≡ cond (meantIn text n (line + 1 - 1 - n) v) 1 old
+flag-next text n line v old h = go (ltb n line) refl
+  where
+    go : (b : Bool) → ltb n line ≡ b → cond (cond b (meantLine text line v) false) 1 (cond (meantIn text n (line - 1 - n) v) 1 old) ≡ cond (meantIn text n (line + 1 - 1 - n) v) 1 old
+    go true e =
+        let l : n < line = ltb-true n line e in
+        let p : line ≡ n + 1 + (line - 1 - n) = omega arith in
+        let q : line + 1 - 1 - n ≡ line - 1 - n + 1 = omega arith in
+        ap (λ (i : ℕ). cond (meantLine text i v) 1 (cond (meantIn text n (line - 1 - n) v) 1 old)) p
+        ∙ flag-more text n (line - 1 - n) v old
+        ∙ ap (λ (k : ℕ). cond (meantIn text n k v) 1 old) (sym q)
+    go false e =
+        let l : line ≤ n = ltb-false n line e in
+        let q : line - 1 - n ≡ line + 1 - 1 - n = omega arith in
+        ap (λ (k : ℕ). cond (meantIn text n k v) 1 old) q
+
 -- where the flags were 0, the unflagged positions are those without a meant move
 pub flags-tell : (text flags : List ℕ) (n m v : ℕ) → getD flags v 0 ≡ cond (meantIn text n m v) 1 0 → unflaggedAt flags v ≡ missingAt text n m v
 unfolding unflaggedAt missingAt
@@ -44,3 +63,7 @@ pub zeros : (count v : ℕ) → getD {A = ℕ} (replicate count 0) v 0 ≡ 0
 zeros zero v = refl
 zeros (suc count) zero = refl
 zeros (suc count) (suc v) = zeros count v
+
+-- so the first of them is the same
+pub flags-first : (text flags : List ℕ) (n m : ℕ) → ((v : ℕ) → v < n → getD flags v 0 ≡ cond (meantIn text n m v) 1 0) → firstOf (unflaggedAt flags) n 0 ≡ firstOf (missingAt text n m) n 0
+flags-first text flags n m h = first-same (unflaggedAt flags) (missingAt text n m) n 0 (λ j l k. flags-tell text flags n m j (h j (omega arith)))

@@ -2,12 +2,13 @@
 // accepted one is decoded into rows of numbers, on which every job works. What a text means is in specs/Meaning.antt, each
 // refusal's condition in specs/Refusals.antt.
 ghost use mathlib.Core.Path.{_≡_};
-ghost use mathlib.Core.Bool.{cond};
-ghost use Prim.Native.Nat.{ℕ, _+_, _*_, _≤_, _<_};
+ghost use mathlib.Core.Bool.{cond, false};
+ghost use Prim.Native.Nat.{ℕ, _+_, _-_, _*_, _≤_, _<_};
 ghost use lib.ListN.{length, getD};
 ghost use Rattle.chart.specs.Text.{letterAt, markAt, fromAt, toAt, numberOf, isNumber};
+ghost use Rattle.chart.specs.Columns.{rowAt, meantRow};
 ghost use Rattle.chart.specs.Meaning.{costOf};
-ghost use Rattle.chart.specs.Examined.{numbered, formed, headerOf, limitsOf, positionFinding, judgedPosition, moveFinding, judgedMove, ordered, rises, above, lineFinding, firstOf, meantLine, meantIn, missingAt, unflaggedAt, afterHeader, examined};
+ghost use Rattle.chart.specs.Examined.{numbered, formed, headerOf, limitsOf, positionFinding, judgedPosition, moveFinding, judgedMove, ordered, above, lineFinding, firstOf, meantIn, unflaggedAt, afterHeader, examined};
 use field::Field;
 use field::read;
 use refusal::Refusal;
@@ -39,6 +40,14 @@ pub enum Examination {
 enum Finding {
     Clean,
     Fault(Refusal),
+}
+
+// The columns of a line: its letter, its two fields and its last byte.
+struct Row {
+    letter: u8,
+    first: Field,
+    second: Field,
+    end: u8,
 }
 
 // The counts of a chart, or the first refusal in document 01's order.
@@ -97,7 +106,7 @@ fn limits(ok: bool, size: usize, n: usize, m: usize) -> Examination
     })
 }
 
-// The lines after a header with these counts, and then that each position has a meant move.
+// The lines after a header with these counts, and then that each position has a meant move: the lines' flags tell.
 fn after_header(text: &[u8], chart: Chart) -> Examination
     requires { ⌜ (1 + chart .positions + chart .moves) * 12 ≤ length (now text) ⌝ }
     requires { ⌜ (chart .positions ≤ 512) × (chart .moves ≤ 4096) ⌝ }
@@ -105,40 +114,63 @@ fn after_header(text: &[u8], chart: Chart) -> Examination
 {
     let n = chart.positions;
     let m = chart.moves;
-    match first_fault(text, n, n + m) {
+    let mut flags = [0u8; Chart::POSITIONS];
+    match first_fault(text, n, n + m, &mut flags) {
         Finding::Fault(r) => Examination::Refused(r),
-        Finding::Clean => match missing(text, n, m) {
+        Finding::Clean => match unflagged(&flags, n) {
             Finding::Fault(r) => Examination::Refused(r),
             Finding::Clean => Examination::Accepted(chart),
         },
     }
 }
 
-// The first fault on lines 1 to `last`, of which the first n are positions.
-fn first_fault(text: &[u8], n: usize, last: usize) -> Finding
+// The first fault on lines 1 to `last`, of which the first n are positions. Each line's columns serve the next line too.
+// Where there is no fault, a 1 for each position that a meant move is from; the other flags stay.
+fn first_fault(text: &[u8], n: usize, last: usize, flags: &mut [u8]) -> Finding
     requires { ⌜ (n ≤ last) × ((last + 1) * 12 ≤ length (now text)) ⌝ }
-    ensures { λ r. ⌜ r ≡ firstOf (lineFinding (now (text .entry)) n) last 1 ⌝ }
+    ensures { λ r. ⌜ (r ≡ firstOf (lineFinding (now (text .entry)) n) last 1) × (r ≡ Finding.Clean → (v : ℕ) → v < length (now (flags .entry)) → getD (now (flags .exit)) v 0 ≡ cond (meantIn (now (text .entry)) n (last - n) v) 1 (getD (now (flags .entry)) v 0)) ⌝ }
 {
     let mut line = 1;
+    let mut before = row_at(text, 0);
     while line <= last {
-        match line_fault(text, n, line) {
+        let row = row_at(text, line);
+        match line_fault(text, n, line, row, before) {
             Finding::Fault(r) => return Finding::Fault(r),
             Finding::Clean => {}
         }
+        flag_row(n < line, row, flags);
+        before = row;
         line += 1;
     }
     Finding::Clean
 }
 
-// The fault of one line.
-fn line_fault(text: &[u8], n: usize, line: usize) -> Finding
-    requires { ⌜ (1 ≤ line) × ((n + 1) * 12 ≤ length (now text)) × ((line + 1) * 12 ≤ length (now text)) ⌝ }
+// The columns of a line.
+fn row_at(text: &[u8], line: usize) -> Row
+    requires { ⌜ (line + 1) * 12 ≤ length (now text) ⌝ }
+    ensures { λ r. ⌜ r ≡ rowAt (now (text .entry)) line ⌝ }
+{
+    let at = line * Chart::LINE;
+    let first = read(text, at + 1);
+    let second = read(text, at + 6);
+    Row {
+        letter: text[at],
+        first: first,
+        second: second,
+        end: text[at + 11],
+    }
+}
+
+// The fault of one line, from its columns and those of the line before.
+fn line_fault(text: &[u8], n: usize, line: usize, row: Row, before: Row) -> Finding
+    requires { ⌜ (1 ≤ line) × ((line + 1) * 12 ≤ length (now text)) ⌝ }
+    requires { ⌜ (row ≡ rowAt (now text) line) × (before ≡ rowAt (now text) (line - 1)) ⌝ }
     ensures { λ r. ⌜ r ≡ lineFinding (now (text .entry)) n line ⌝ }
 {
     if line <= n {
         position_fault(text, line)
     } else {
-        move_fault(text, n, line)
+        move_fault(text, n, line, row, before)
     }
 }
 
@@ -147,16 +179,10 @@ fn position_fault(text: &[u8], line: usize) -> Finding
     ensures { λ r. ⌜ r ≡ positionFinding (now (text .entry)) line ⌝ }
 {
     let at = line * Chart::LINE;
+    let first = read(text, at + 1);
     let mark = mark_at(text, line);
-    let ok = formed(
-        text[at],
-        read(text, at + 1),
-        mark,
-        text[at + 11],
-        b'O',
-        b'L',
-    );
-    judge_position(ok, line, from_at(text, line), number(mark))
+    let ok = formed(text[at], first, mark, text[at + 11], b'O', b'L');
+    judge_position(ok, line, number(first), number(mark))
 }
 
 fn judge_position(ok: bool, line: usize, position: usize, mark: usize) -> Finding
@@ -175,33 +201,21 @@ fn judge_position(ok: bool, line: usize, position: usize, mark: usize) -> Findin
     Finding::Clean
 }
 
-// A move line after n positions. The line before is read again, so that nothing is carried from line to line.
-fn move_fault(text: &[u8], n: usize, line: usize) -> Finding
-    requires { ⌜ (1 ≤ line) × ((n + 1) * 12 ≤ length (now text)) × ((line + 1) * 12 ≤ length (now text)) ⌝ }
+// A move line after n positions, from its columns and those of the line before.
+fn move_fault(text: &[u8], n: usize, line: usize, row: Row, before: Row) -> Finding
+    requires { ⌜ 1 ≤ line ⌝ }
+    requires { ⌜ (row ≡ rowAt (now text) line) × (before ≡ rowAt (now text) (line - 1)) ⌝ }
     ensures { λ r. ⌜ r ≡ moveFinding (now (text .entry)) n line ⌝ }
 {
-    let at = line * Chart::LINE;
-    let letter = text[at];
-    let ok = formed(
-        letter,
-        read(text, at + 1),
-        read(text, at + 6),
-        text[at + 11],
-        b'M',
-        b'D',
-    );
-    let from = from_at(text, line);
+    let letter = row.letter;
+    let first = row.first;
+    let second = row.second;
+    let ok = formed(letter, first, second, row.end, b'M', b'D');
+    let from = number(first);
+    let to = number(second);
     let owner = letter_at(text, from + 1);
-    judge_move(
-        ok,
-        n,
-        line,
-        letter,
-        from,
-        to_at(text, line),
-        owner,
-        rise(text, line),
-    )
+    let rises = rise(before, from, cost(letter), to);
+    judge_move(ok, n, line, letter, from, to, owner, rises)
 }
 
 fn judge_move(
@@ -250,21 +264,19 @@ fn judge_order(n: usize, line: usize, rises: bool) -> Finding
     }
 }
 
-// Whether the move on a line is above the one before.
-fn rise(text: &[u8], line: usize) -> bool
-    requires { ⌜ (1 ≤ line) × ((line + 1) * 12 ≤ length (now text)) ⌝ }
-    ensures { λ r. ⌜ r ≡ rises (now (text .entry)) line ⌝ }
+// Whether a move is above the one on the line before.
+fn rise(before: Row, from: usize, cost1: u8, to: usize) -> bool
+    ensures { λ r. ⌜ r ≡ above (numberOf (before .first)) (costOf (before .letter)) (numberOf (before .second)) from cost1 to ⌝ }
 {
-    let before = line - 1;
-    let cost0 = cost(text[before * Chart::LINE]);
-    let cost1 = cost(text[line * Chart::LINE]);
+    let first = before.first;
+    let second = before.second;
     above(
-        from_at(text, before),
-        cost0,
-        to_at(text, before),
-        from_at(text, line),
+        number(first),
+        cost(before.letter),
+        number(second),
+        from,
         cost1,
-        to_at(text, line),
+        to,
     )
 }
 
@@ -294,16 +306,6 @@ pub fn cost(letter: u8) -> u8
     if letter == b'D' { 1 } else { 0 }
 }
 
-// The lowest position without a meant move. One pass over the moves flags the positions that have one.
-fn missing(text: &[u8], n: usize, m: usize) -> Finding
-    requires { ⌜ (n ≤ 512) × ((1 + n + m) * 12 ≤ length (now text)) ⌝ }
-    ensures { λ r. ⌜ r ≡ firstOf (missingAt (now (text .entry)) n m) n 0 ⌝ }
-{
-    let mut flags = [0u8; Chart::POSITIONS];
-    flag_meant(text, n, m, &mut flags);
-    unflagged(&flags, n)
-}
-
 // A line's letter is one of two, its fields are numbers, and a line feed ends it.
 fn formed(letter: u8, first: Field, second: Field, end: u8, a: u8, b: u8) -> bool
     ensures { λ r. ⌜ r ≡ formed letter first second end a b ⌝ }
@@ -329,27 +331,17 @@ fn numbered(first: Field, second: Field, end: u8) -> bool
     }
 }
 
-// A 1 for each position that one of the m moves after n positions is a meant move from; the other flags stay.
-fn flag_meant(text: &[u8], n: usize, m: usize, flags: &mut [u8])
-    requires { ⌜ (1 + n + m) * 12 ≤ length (now text) ⌝ }
-    ensures { λ _. ⌜ ((v : ℕ) → v < length (now (flags .entry)) → getD (now (flags .exit)) v 0 ≡ cond (meantIn (now (text .entry)) n m v) 1 (getD (now (flags .entry)) v 0)) ⌝ }
+// A 1 for the position that a meant move is from. A position's line is no move.
+fn flag_row(moves: bool, row: Row, flags: &mut [u8])
+    ensures { λ _. ⌜ ((v : ℕ) → v < length (now (flags .entry)) → getD (now (flags .exit)) v 0 ≡ cond (cond moves (meantRow row v) false) 1 (getD (now (flags .entry)) v 0)) ⌝ }
 {
-    let mut k = 0;
-    while k < m {
-        flag_line(text, n + 1 + k, flags);
-        k += 1;
-    }
-}
-
-// A 1 for the position that a line is a meant move from.
-fn flag_line(text: &[u8], line: usize, flags: &mut [u8])
-    requires { ⌜ (line + 1) * 12 ≤ length (now text) ⌝ }
-    ensures { λ _. ⌜ ((v : ℕ) → v < length (now (flags .entry)) → getD (now (flags .exit)) v 0 ≡ cond (meantLine (now (text .entry)) line v) 1 (getD (now (flags .entry)) v 0)) ⌝ }
-{
-    if text[line * Chart::LINE] == b'M' {
-        let from = from_at(text, line);
-        if from < flags.len() {
-            flags[from] = 1;
+    if moves {
+        if row.letter == b'M' {
+            let first = row.first;
+            let from = number(first);
+            if from < flags.len() {
+                flags[from] = 1;
+            }
         }
     }
 }

@@ -13,11 +13,9 @@ use lib.ListN.{length, take, drop}
 use lib.Seq.{getD-drop, sets-eq, drop-at, drop-cons, length-take-le}
 use lib.Dec.{ltb, eqb}
 use borrow.Author.Tests.{ltb-true, ltb-false, eqb-true, eqb-false, lt-ltb, le-ltb, ne-eqb}
-use Rattle.field.specs.Text.{digitAfter, stepped, scan, ended, fieldOf, five, fieldAt, placeByte, numberText, withNumber}
+use Rattle.field.specs.Text.{Scan, Spaces, Zero, Digits, Wrong, digitAfter, stepped, scan, ended, fieldOf, five, fieldAt, placeByte, numberText, withNumber}
 use Rattle.field.specs.declared.Field.{Field}
 use Rattle.field.specs.declared.Field.the-variants.{Number, Bad}
-use Rattle.field.specs.declared.Scan.{Scan}
-use Rattle.field.specs.declared.Scan.the-variants.{Spaces, Zero, Digits, Wrong}
 
 -- a digit d after digits that spell x
 digit-after : (x d : ℕ) → x ≤ 9999 → d < 10 → digitAfter x (48 + d) ≡ Digits (x * 10 + d)
@@ -63,7 +61,7 @@ digit-back y b = go (ltb 9999 y) (ltb b 48) (ltb 57 b) refl refl refl
         let high : b ≤ 57 = ltb-false 57 b g in
         inr (b - 48, omega arith, omega arith, simp (e, f, g))
 
-wrong-stays : (bs : List ℕ) → scan Wrong bs ≡ Wrong
+pub wrong-stays : (bs : List ℕ) → scan Wrong bs ≡ Wrong
 unfolding scan stepped
 wrong-stays [] = refl
 wrong-stays (b ∷ bs) = wrong-stays bs

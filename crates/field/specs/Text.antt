@@ -8,8 +8,13 @@ use lib.Seq.{sets}
 use lib.Dec.{ltb, eqb}
 use Rattle.field.specs.declared.Field.{Field}
 use Rattle.field.specs.declared.Field.the-variants.{Number, Bad}
-use Rattle.field.specs.declared.Scan.{Scan}
-use Rattle.field.specs.declared.Scan.the-variants.{Spaces, Zero, Digits, Wrong}
+
+-- what the bytes of a field so far are: only spaces, a lone zero, a number without a leading zero, or no field
+pub data Scan : Type 0 where
+  Spaces : Scan
+  Zero : Scan
+  Digits : ℕ → Scan
+  Wrong : Scan
 
 -- a byte after digits that spell x: a digit, 48 to 57, goes on with the number; five bytes never get past 99,999
 unfoldable pub digitAfter : ℕ → ℕ → Scan

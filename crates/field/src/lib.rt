@@ -1,9 +1,13 @@
 // The five-byte field of charts and plates (document 01, "The chart"): a number from 0 to 99,999, right-justified after
 // spaces, with no leading zero save "0" itself. Reading and writing are each other's inverse (specs/Laws.antt).
 ghost use mathlib.Core.Path.{_≡_};
-ghost use Prim.Native.Nat.{_+_, _≤_, _<_};
+ghost use mathlib.Core.Bool.{cond};
+ghost use mathlib.Core.List.{[], _∷_};
+ghost use Prim.Native.Nat.{_+_, _-_, _≤_, _<_};
 ghost use lib.ListN.{length};
-ghost use Rattle.field.specs.Text.{fieldAt, withNumber, stepped, digitAfter, ended, placeByte};
+ghost use lib.Dec.{eqb};
+ghost use Rattle.field.specs.Text.{Digits, scan, ended, fieldAt, withNumber, placeByte};
+ghost use Rattle.field.specs.Reader.{isDigit};
 
 // What five bytes read as.
 pub enum Field {
@@ -11,24 +15,32 @@ pub enum Field {
     Bad,
 }
 
-// What the bytes of a field so far are: only spaces, a lone zero, a number without a leading zero, or no field.
-enum Scan {
-    Spaces,
-    Zero,
-    Digits(u32),
-    Wrong,
-}
-
-// The field at `at`. The bound keeps its five bytes within the text.
+// The field at `at`. The bound keeps its five bytes within the text. Spaces before the digits count as zeros.
 pub fn read(text: &[u8], at: usize) -> Field
     requires { ⌜ at + 5 ≤ length (now text) ⌝ }
     ensures { λ r. ⌜ r ≡ fieldAt (now (text .entry)) at ⌝ }
 {
-    let a = step(Scan::Spaces, text[at]);
-    let b = step(a, text[at + 1]);
-    let c = step(b, text[at + 2]);
-    let d = step(c, text[at + 3]);
-    end(step(d, text[at + 4]))
+    let a = text[at];
+    let b = text[at + 1];
+    let c = text[at + 2];
+    let d = text[at + 3];
+    let e = text[at + 4];
+    if a != b' ' {
+        return leading(a, digits(a, b, c, d, e));
+    }
+    if b != b' ' {
+        return leading(b, digits(b'0', b, c, d, e));
+    }
+    if c != b' ' {
+        return leading(c, digits(b'0', b'0', c, d, e));
+    }
+    if d != b' ' {
+        return leading(d, digits(b'0', b'0', b'0', d, e));
+    }
+    if e != b' ' {
+        return digits(b'0', b'0', b'0', b'0', e);
+    }
+    Field::Bad
 }
 
 // The field of x into its five places from `at`. The bound keeps them within the text. A number above 99,999 is cut to its
@@ -44,57 +56,57 @@ pub fn write(x: u32, text: &mut [u8], at: usize)
     text[at + 4] = (48 + x % 10) as u8;
 }
 
-// One byte more.
-fn step(s: Scan, b: u8) -> Scan
-    ensures { λ r. ⌜ r ≡ stepped s b ⌝ }
+// What a field of two digits or more reads as, from its first digit and its number: no leading zero.
+fn leading(first: u8, f: Field) -> Field
+    ensures { λ r. ⌜ r ≡ cond (eqb first 48) Field.Bad f ⌝ }
 {
-    match s {
-        Scan::Spaces => first(b),
-        Scan::Zero => Scan::Wrong,
-        Scan::Digits(x) => next(x, b),
-        Scan::Wrong => Scan::Wrong,
+    if first == b'0' {
+        return Field::Bad;
     }
+    f
 }
 
-// The byte after spaces only.
-fn first(b: u8) -> Scan
-    ensures { λ r. ⌜ r ≡ stepped Scan.Spaces b ⌝ }
+// The number that five digits spell.
+fn digits(a: u8, b: u8, c: u8, d: u8, e: u8) -> Field
+    ensures { λ r. ⌜ r ≡ ended (scan (Digits 0) (a ∷ b ∷ c ∷ d ∷ e ∷ [])) ⌝ }
 {
-    if b == b' ' {
-        return Scan::Spaces;
+    if !digit(a) {
+        return Field::Bad;
     }
-    if b == b'0' {
-        return Scan::Zero;
+    if !digit(b) {
+        return Field::Bad;
     }
-    next(0, b)
+    if !digit(c) {
+        return Field::Bad;
+    }
+    if !digit(d) {
+        return Field::Bad;
+    }
+    if !digit(e) {
+        return Field::Bad;
+    }
+    let ab = value(a) * 10 + value(b);
+    let abc = ab * 10 + value(c);
+    let abcd = abc * 10 + value(d);
+    Field::Number(abcd * 10 + value(e))
 }
 
-// The byte after digits that spell x. The first test never holds within five bytes: it keeps the product in range.
-fn next(x: u32, b: u8) -> Scan
-    ensures { λ r. ⌜ r ≡ digitAfter x b ⌝ }
+// Whether a byte is a digit.
+fn digit(b: u8) -> bool
+    ensures { λ r. ⌜ r ≡ isDigit b ⌝ }
 {
-    if 9999 < x {
-        return Scan::Wrong;
-    }
     if b < b'0' {
-        return Scan::Wrong;
+        return false;
     }
-    if b'9' < b {
-        return Scan::Wrong;
-    }
-    Scan::Digits(x * 10 + (b - b'0') as u32)
+    b <= b'9'
 }
 
-// What a field of five bytes reads as.
-fn end(s: Scan) -> Field
-    ensures { λ r. ⌜ r ≡ ended s ⌝ }
+// What a digit is worth.
+fn value(b: u8) -> u32
+    requires { ⌜ 48 ≤ b ⌝ }
+    ensures { λ r. ⌜ r ≡ b - 48 ⌝ }
 {
-    match s {
-        Scan::Spaces => Field::Bad,
-        Scan::Zero => Field::Number(0),
-        Scan::Digits(x) => Field::Number(x),
-        Scan::Wrong => Field::Bad,
-    }
+    (b - b'0') as u32
 }
 
 // The byte in the place of `unit`, 10 to 10,000: a space before the number's first digit.

@@ -1,58 +1,42 @@
--- `chart::move_fault` meets its contract: the columns are read, and `judge_move` judges them.
-use Rattle.chart.specs.Text.{letterAt, firstAt, secondAt, endAt}
-use Rattle.chart.specs.Examined.{moveFinding, moveFormed}
+-- `chart::move_fault` meets its contract: `judge_move` judges the columns.
+use Prim.Native.Nat.{_≤_}
+use Rattle.chart.specs.Text.{fromAt, toAt}
+use Rattle.chart.specs.Examined.{moveFinding, moveFormed, rises}
 use native.Mathlib.Omega.{arith}
-use denote.Ref.{now}
-use Rattle.chart.specs.Columns.{from-small}
+use Rattle.chart.specs.Columns.{rowAt, from-small}
 use borrow.Author.Needs.{needs}
 use Rattle.chart.proofs.move_fault.Statement.{statement}
 use Rattle.chart.proofs.move_fault.Tie as tie
+use Rattle.chart.proofs.cost.Reads as cost-reads
 use Rattle.chart.proofs.formed.Reads as formed-reads
-use Rattle.chart.proofs.from_at.Reads as from-at-reads
 use Rattle.chart.proofs.judge_move.Reads as judge-move-reads
 use Rattle.chart.proofs.letter_at.Reads as letter-at-reads
+use Rattle.chart.proofs.number.Reads as number-reads
 use Rattle.chart.proofs.rise.Reads as rise-reads
-use Rattle.chart.proofs.to_at.Reads as to-at-reads
-use Rattle.field.proofs.read.Reads as read-reads
-
-mul-at : tie.Need-mul-at
-mul-at c = search needs
-
-shared-slice-read-letter : tie.Need-shared-slice-read-letter
-shared-slice-read-letter c = search needs
-
-add-read : tie.Need-add-read
-add-read c = search needs
-
-read-requires : tie.Need-read-requires
-read-requires c κs = search needs
-
-add-read-2 : tie.Need-add-read-2
-add-read-2 c = search needs
-
-read-requires-2 : tie.Need-read-requires-2
-read-requires-2 c κs = search needs
-
-add-formed : tie.Need-add-formed
-add-formed c = search needs
-
-shared-slice-read-formed : tie.Need-shared-slice-read-formed
-shared-slice-read-formed c = search needs
 
 formed-requires : tie.Need-formed-requires
 formed-requires c κs = search needs
 
-from-at-requires : tie.Need-from-at-requires
-from-at-requires c κs = search needs
+number-requires : tie.Need-number-requires
+number-requires c κs = search needs
+
+number-requires-2 : tie.Need-number-requires-2
+number-requires-2 c κs = search needs
 
 add-letter-at : tie.Need-add-letter-at
-add-letter-at c = omega (arith, c .from-at .ensures, from-small (now (c .before .before .before .before .before .before .before .args .text)) (c .before .before .before .before .before .before .before .args .line))
+unfolding rowAt fromAt
+add-letter-at c =
+    let small : c .before .number .result ≤ 99999 = rw (c .before .number .ensures, c .before .before .before .before .pre .1 .0) (from-small _ _) in
+    omega arith
 
 letter-at-requires : tie.Need-letter-at-requires
-letter-at-requires c κs = omega (arith, c .from-at .ensures, from-small (now (c .before .before .before .before .before .before .before .args .text)) (c .before .before .before .before .before .before .before .args .line))
+unfolding rowAt fromAt
+letter-at-requires c κs =
+    let small : c .before .number .result ≤ 99999 = rw (c .before .number .ensures, c .before .before .before .before .pre .1 .0) (from-small _ _) in
+    omega arith
 
-to-at-requires : tie.Need-to-at-requires
-to-at-requires c κs = search needs
+cost-requires : tie.Need-cost-requires
+cost-requires c κs = search needs
 
 rise-requires : tie.Need-rise-requires
 rise-requires c κs = search needs
@@ -61,26 +45,19 @@ judge-move-requires : tie.Need-judge-move-requires
 judge-move-requires c κs = search needs
 
 returns : tie.Need-returns
-unfolding moveFinding moveFormed letterAt firstAt secondAt endAt
-returns c = cc (c .judge-move .ensures, c .before .rise .ensures, c .before .before .to-at .ensures, c .before .before .before .letter-at .ensures, c .before .before .before .before .from-at .ensures, c .before .before .before .before .before .formed .ensures, c .before .before .before .before .before .before .before .read2 .ensures, c .before .before .before .before .before .before .before .before .read .ensures)
+unfolding moveFinding moveFormed rises rowAt fromAt toAt
+returns c = simp (c .judge-move .ensures, c .before .rise .ensures, c .before .before .cost .ensures, c .before .before .before .letter-at .ensures, c .before .before .before .before .number2 .ensures, c .before .before .before .before .before .number .ensures, c .before .before .before .before .before .before .formed .ensures, c .before .before .before .before .before .before .before .before .pre .1 .0, c .before .before .before .before .before .before .before .before .pre .1 .1)
 
 pub move-fault-spec : {M : Type 1} → statement M
 move-fault-spec =
     tie.close
     (tie.spec
-    mul-at
-    shared-slice-read-letter
-    add-read
-    read-requires
-    add-read-2
-    read-requires-2
-    add-formed
-    shared-slice-read-formed
     formed-requires
-    from-at-requires
+    number-requires
+    number-requires-2
     add-letter-at
     letter-at-requires
-    to-at-requires
+    cost-requires
     rise-requires
     judge-move-requires
     returns)

@@ -1,68 +1,26 @@
--- `chart::rise` meets its contract: the columns are read, and `above` compares them.
-use Rattle.chart.specs.Text.{letterAt}
-use Rattle.chart.specs.Examined.{rises}
+-- `chart::rise` meets its contract: `above` compares the two moves.
 use borrow.Author.Needs.{needs}
 use Rattle.chart.proofs.rise.Statement.{statement}
 use Rattle.chart.proofs.rise.Tie as tie
 use Rattle.chart.proofs.above.Reads as above-reads
 use Rattle.chart.proofs.cost.Reads as cost-reads
-use Rattle.chart.proofs.from_at.Reads as from-at-reads
-use Rattle.chart.proofs.to_at.Reads as to-at-reads
+use Rattle.chart.proofs.number.Reads as number-reads
 
-sub-before : tie.Need-sub-before
-sub-before c = search needs
-
-mul-cost : tie.Need-mul-cost
-mul-cost c = search needs
-
-shared-slice-read-cost : tie.Need-shared-slice-read-cost
-shared-slice-read-cost c = search needs
+number-requires : tie.Need-number-requires
+number-requires c κs = search needs
 
 cost-requires : tie.Need-cost-requires
 cost-requires c κs = search needs
 
-mul-cost-2 : tie.Need-mul-cost-2
-mul-cost-2 c = search needs
-
-shared-slice-read-cost-2 : tie.Need-shared-slice-read-cost-2
-shared-slice-read-cost-2 c = search needs
-
-cost-requires-2 : tie.Need-cost-requires-2
-cost-requires-2 c κs = search needs
-
-from-at-requires : tie.Need-from-at-requires
-from-at-requires c κs = search needs
-
-to-at-requires : tie.Need-to-at-requires
-to-at-requires c κs = search needs
-
-from-at-requires-2 : tie.Need-from-at-requires-2
-from-at-requires-2 c κs = search needs
-
-to-at-requires-2 : tie.Need-to-at-requires-2
-to-at-requires-2 c κs = search needs
+number-requires-2 : tie.Need-number-requires-2
+number-requires-2 c κs = search needs
 
 above-requires : tie.Need-above-requires
 above-requires c κs = search needs
 
 returns : tie.Need-returns
-unfolding rises letterAt
 returns c = cc
 
 pub rise-spec : {M : Type 1} → statement M
 rise-spec =
-    tie.close
-    (tie.spec
-    sub-before
-    mul-cost
-    shared-slice-read-cost
-    cost-requires
-    mul-cost-2
-    shared-slice-read-cost-2
-    cost-requires-2
-    from-at-requires
-    to-at-requires
-    from-at-requires-2
-    to-at-requires-2
-    above-requires
-    returns)
+    tie.close (tie.spec number-requires cost-requires number-requires-2 above-requires returns)
