@@ -1,6 +1,5 @@
-// The chart's text (document 01, "The chart", and refusals 1 to 9 of its table): a text of any bytes is examined whole, and an
-// accepted one is decoded into rows of numbers, on which every job works. What a text means is in specs/Meaning.antt, each
-// refusal's condition in specs/Refusals.antt.
+// The chart's text (document 01, "The chart", and refusals 1 to 9 of its table): a text of any bytes is examined whole. What a text
+// means is in specs/Meaning.antt, each refusal's condition in specs/Refusals.antt.
 ghost use mathlib.Core.Path.{_≡_};
 ghost use mathlib.Core.Bool.{cond, false};
 ghost use Prim.Native.Nat.{ℕ, _+_, _-_, _*_, _≤_, _<_};

@@ -1,2 +1,2 @@
-// The solver: values and steps of decoded rows by rounds, their choices, and the numbers of a plate's first line.
+// The solver: values and steps of decoded rows by rounds.
 pub mod solve;
