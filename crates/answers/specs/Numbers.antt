@@ -9,17 +9,15 @@ use Rattle.value.specs.declared.valuing.Valued.{Valued}
 use Rattle.value.specs.declared.valuing.Valued.the-variants.{Rounds, Refused as NotValued, Short as NoRoom}
 use Rattle.weighing.specs.declared.Weighed.{Weighed}
 use Rattle.weighing.specs.declared.Weighed.the-variants.{Done, Refused as NotWeighed, Short as NoWorths, Choice as Unlawful}
-use Rattle.plate.specs.Reading.{readingNumber, readingLine}
 use Rattle.plate.specs.declared.reading.Reading.{Reading}
 use Rattle.plate.specs.declared.reading.Reading.the-variants.{Rows, Refused as NotRead, Short as NoRows, Malformed}
 use Rattle.writing.specs.declared.Written.{Written}
 use Rattle.writing.specs.declared.Written.the-variants.{Length, Refused as NotWritten, Short as NoBuffer}
 use Rattle.audit.specs.Checking.{numbersFrom}
 use Rattle.audit.specs.declared.Numbers.{Numbers}
-use Rattle.compare.specs.Comparing.{numbersOf}
 use Rattle.compare.specs.declared.Compared.{Compared}
 use Rattle.compare.specs.declared.Compared.the-variants.{Agree, Differ, Refused as NotCompared, Short as NoChoices, Form as BadPlate, Choice as Illegal, Fault as Faulty}
-use Rattle.run.specs.Running.{runOf, startedNumber, startedLine, faultPosition, faultCondition, answerNumber, answerLine}
+use Rattle.run.specs.Running.{runOf}
 use Rattle.run.specs.declared.Run.{Run}
 use Rattle.run.specs.declared.Advice.{Advice}
 use Rattle.run.specs.declared.Started.{Started}
