@@ -1,19 +1,44 @@
 // Examines and loads charts, good and bad, and writes one line for each: `A` with the counts, or `R` with the number and the line
-// of the refusal, in the chart's columns, and what the chart is. `stdout` has what document 01 says of each.
+// of the refusal, in the chart's columns, and what the chart is. `stdin` has charts, `stdout` what document 01 says of each.
 ghost use mathlib.Core.Path.{_≡_};
 ghost use lib.ListN.{length};
+ghost use Prim.Native.Nat.{_≤_};
+use cases::Case;
+use cases::case_at;
 use chart::Examination;
+use libc::STDIN_FILENO;
 
 fn main() {
-    good_charts();
-    small_examples();
-    lengths();
-    header_bytes();
-    position_bytes();
-    move_bytes();
-    two_faults();
+    let mut input = [0u8; 32768];
+    let got = io::read_full(STDIN_FILENO, &mut input);
+    cases(&input[..got]);
     longest();
     rows();
+}
+
+// The cases of the input, of which there are fewer than 100.
+fn cases(input: &[u8]) {
+    let mut at: usize = 0;
+    let mut k: usize = 0;
+    while k < 100 {
+        at = show_case(input, case_at(input, at));
+        k += 1;
+    }
+}
+
+// Shows a case, and answers where the next begins.
+fn show_case(input: &[u8], c: Case) -> usize
+    requires { ⌜ (c .name ≤ c .first) × (c .first ≤ c .second) × (c .second ≤ c .end) × (c .end ≤ length (now input)) ⌝ }
+{
+    let name = c.name;
+    let first = c.first;
+    let second = c.second;
+    let end = c.end;
+    if input.len() <= end {
+        return input.len();
+    }
+    show(&input[name..first], &input[first..second]);
+    end + 1
 }
 
 // The answer for a text.
@@ -36,138 +61,6 @@ fn line(letter: u8, a: usize, b: usize) {
     field::write((a % 100000) as u32, &mut out, 1);
     field::write((b % 100000) as u32, &mut out, 6);
     io::write_all(1, &out);
-}
-
-fn good_charts() {
-    show_document(b"document 01's chart", &document());
-    show(b"one position", b"H    1    1\nO    0    0\nM    0    0\n");
-    show(
-        b"one unsafe position of the lane's",
-        b"H    1    1\nL    0    1\nM    0    0\n",
-    );
-    show(
-        b"the same pair as M and as D",
-        b"H    1    2\nO    0    0\nM    0    0\nD    0    0\n",
-    );
-}
-
-// The table's own examples.
-fn small_examples() {
-    show(b"1: the empty text", b"");
-    show(b"2: a leading zero", b"H   05    8\n");
-    show(b"3: no position", b"H    0    1\n");
-    show(b"4: only a header", b"H    1    1\n");
-    show(b"5: mark 2", b"H    1    1\nO    0    2\nM    0    0\n");
-    show(
-        b"6: a move to 1 with n = 1",
-        b"H    1    1\nO    0    0\nM    0    1\n",
-    );
-    show(
-        b"7: a disturbance from L",
-        b"H    1    1\nL    0    0\nD    0    0\n",
-    );
-    show(
-        b"8: the same move twice",
-        b"H    1    2\nO    0    0\nM    0    0\nM    0    0\n",
-    );
-    show(
-        b"9: only a disturbance",
-        b"H    1    1\nO    0    0\nD    0    0\n",
-    );
-}
-
-// Document 01's chart, a byte and a line shorter and longer.
-fn lengths() {
-    let text =
-        b"H    5    8\nO    0    0\nL    1    0\nO    2    0\nL    3    1\nO    4    0\nM    0    1\nD    0    2\nM    1    0\nM    2    0\nM    2    2\nD    2    3\nM    3    3\nM    4    4\nM    4    4\n";
-    show(b"one line longer", text);
-    part(b"one byte longer", text, 169);
-    part(b"as it is", text, 168);
-    part(b"one byte shorter", text, 167);
-    part(b"one line shorter", text, 156);
-    part(b"its header", text, 12);
-    part(b"its first byte", text, 1);
-}
-
-// Document 01's chart with one byte changed.
-fn altered(name: &[u8], at: usize, byte: u8) {
-    altered_twice(name, at, byte, at, byte)
-}
-
-fn altered_twice(name: &[u8], at: usize, byte: u8, at2: usize, byte2: u8) {
-    let mut text = document();
-    if at < 168 {
-        text[at] = byte;
-    }
-    if at2 < 168 {
-        text[at2] = byte2;
-    }
-    show_document(name, &text);
-}
-
-fn show_document(name: &[u8], text: &[u8; 168]) {
-    show(name, text);
-}
-
-fn header_bytes() {
-    altered(b"h for H", 0, b'h');
-    altered(b"O for H", 0, b'O');
-    altered(b"n with a leading zero", 4, b'0');
-    altered(b"n blank", 5, b' ');
-    altered(b"n left-justified", 1, b'5');
-    altered(b"m with a sign", 9, b'-');
-    altered(b"a space for the line feed", 11, b' ');
-    altered(b"n = 0", 5, b'0');
-    altered(b"m = 0", 10, b'0');
-    altered(b"n = 6", 5, b'6');
-    altered(b"m = 7", 10, b'7');
-    altered_twice(b"n = 515", 3, b'5', 4, b'1');
-    altered_twice(b"m = 998", 8, b'9', 9, b'9');
-}
-
-fn position_bytes() {
-    altered(b"M on a position line", 12, b'M');
-    altered(b"o for O", 12, b'o');
-    altered(b"L for O", 60, b'L');
-    altered(b"position 1 for 0", 17, b'1');
-    altered(b"position 10 for 0", 16, b'1');
-    altered(b"position 3 for 2", 41, b'3');
-    altered(b"no line feed after position 0", 23, b'\r');
-    altered(b"mark 2", 22, b'2');
-    altered(b"mark 1", 22, b'1');
-    altered(b"mark 10", 21, b'1');
-    altered(b"mark blank", 22, b' ');
-}
-
-fn move_bytes() {
-    altered(b"O on a move line", 72, b'O');
-    altered(b"from with a leading zero", 76, b'0');
-    altered(b"no line feed at the end", 167, b' ');
-    altered(b"to 5", 82, b'5');
-    altered(b"from 5", 77, b'5');
-    altered(b"D for M from L", 96, b'D');
-    altered(b"M for D", 84, b'M');
-    altered(b"to 0 after to 0", 130, b'0');
-    altered(b"M after D of the same from", 101, b'0');
-    altered(b"from 1 after from 2", 125, b'1');
-    altered(b"D for the meant move of 0", 72, b'D');
-    altered(b"D for the meant move of 4", 156, b'D');
-}
-
-// On one line the lower number is answered, on two lines the lower line.
-fn two_faults() {
-    altered_twice(b"letter and mark of one line", 12, b'X', 22, b'2');
-    altered_twice(b"mark and number of one line", 17, b'1', 22, b'2');
-    altered_twice(b"field and limit in the header", 4, b'0', 10, b'0');
-    altered_twice(b"n = 0 and a wrong count", 5, b'0', 10, b'9');
-    altered_twice(b"to 9 and out of order", 125, b'1', 130, b'9');
-    altered_twice(b"D from L, out of order", 144, b'D', 149, b'1');
-    altered_twice(b"D from L, to 9", 144, b'D', 154, b'9');
-    altered_twice(b"mark of line 1, letter of line 2", 22, b'2', 24, b'X');
-    altered_twice(b"count, and mark of line 1", 5, b'6', 22, b'2');
-    altered_twice(b"order of line 10, form of line 13", 130, b'0', 167, b' ');
-    altered_twice(b"no meant move of 0, form of line 13", 72, b'D', 167, b' ');
-    altered_twice(b"no meant move of 0 and of 4", 72, b'D', 156, b'D');
 }
 
 // Document 01's chart.

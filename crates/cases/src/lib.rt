@@ -1,0 +1,66 @@
+// The cases of a test program's input. A case has the lengths of its name and of its two texts in three fields, a line feed, the name,
+// the texts and a line feed.
+ghost use Prim.Native.Nat.{_≤_};
+ghost use lib.ListN.{length};
+use field::Field;
+use field::read;
+
+// Where a case's name and its texts begin, and where they end.
+pub struct Case {
+    pub name: usize,
+    pub first: usize,
+    pub second: usize,
+    pub end: usize,
+}
+
+// The case at `at`, cut at the input's end: where nothing is left, all is at the end.
+pub fn case_at(input: &[u8], at: usize) -> Case
+    ensures { λ r. ⌜ (r .name ≤ r .first) × (r .first ≤ r .second) × (r .second ≤ r .end) × (r .end ≤ length (now (input .entry))) ⌝ }
+{
+    let size = input.len();
+    if size < 16 {
+        return ended(size);
+    }
+    if size - 16 < at {
+        return ended(size);
+    }
+    let name = at + 16;
+    let first = after(size, name, number(read(input, at)));
+    let second = after(size, first, number(read(input, at + 5)));
+    let end = after(size, second, number(read(input, at + 10)));
+    Case {
+        name,
+        first,
+        second,
+        end,
+    }
+}
+
+fn ended(size: usize) -> Case
+    ensures { λ r. ⌜ (r .name ≤ r .first) × (r .first ≤ r .second) × (r .second ≤ r .end) × (r .end ≤ size) ⌝ }
+{
+    Case {
+        name: size,
+        first: size,
+        second: size,
+        end: size,
+    }
+}
+
+// So many bytes further on, but not past the input's end.
+fn after(size: usize, from: usize, count: usize) -> usize
+    requires { ⌜ from ≤ size ⌝ }
+    ensures { λ r. ⌜ (from ≤ r) × (r ≤ size) ⌝ }
+{
+    if size - from < count {
+        return size;
+    }
+    from + count
+}
+
+fn number(f: Field) -> usize {
+    match f {
+        Field::Number(x) => x as usize,
+        Field::Bad => 0,
+    }
+}
