@@ -9,8 +9,8 @@ use Rattle.value.specs.declared.valuing.Valued.{Valued}
 use Rattle.value.specs.declared.valuing.Valued.the-variants.{Rounds, Refused as NotValued, Short as NoRoom}
 use Rattle.weighing.specs.declared.Weighed.{Weighed}
 use Rattle.weighing.specs.declared.Weighed.the-variants.{Done, Refused as NotWeighed, Short as NoWorths, Choice as Unlawful}
-use Rattle.plate.specs.declared.reading.Reading.{Reading}
-use Rattle.plate.specs.declared.reading.Reading.the-variants.{Rows, Refused as NotRead, Short as NoRows, Malformed}
+use Rattle.reading.specs.declared.Reading.{Reading}
+use Rattle.reading.specs.declared.Reading.the-variants.{Rows, Refused as NotRead, Short as NoRows, Malformed}
 use Rattle.writing.specs.declared.Written.{Written}
 use Rattle.writing.specs.declared.Written.the-variants.{Length, Refused as NotWritten, Short as NoBuffer}
 use Rattle.audit.specs.Checking.{numbersFrom}

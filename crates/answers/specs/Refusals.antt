@@ -1,8 +1,8 @@
 -- The refusals in numbers are those that the jobs' own definitions give for each case.
 use mathlib.Core.Path.{_≡_, refl}
-use Rattle.plate.specs.Reading.{readingNumber, readingLine}
-use Rattle.plate.specs.declared.reading.Reading.{Reading}
-use Rattle.plate.specs.declared.reading.Reading.the-variants.{Rows, Refused as NotRead, Short as NoRows, Malformed}
+use Rattle.reading.specs.Reading.{readingNumber, readingLine}
+use Rattle.reading.specs.declared.Reading.{Reading}
+use Rattle.reading.specs.declared.Reading.the-variants.{Rows, Refused as NotRead, Short as NoRows, Malformed}
 use Rattle.audit.specs.Checking.{numbersFrom}
 use Rattle.compare.specs.Comparing.{numbersOf}
 use Rattle.compare.specs.declared.Compared.{Compared}

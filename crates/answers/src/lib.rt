@@ -7,7 +7,7 @@ use audit::Numbers;
 use audit::numbers_of;
 use choice::summary::Summary;
 use compare::Compared;
-use plate::reading::Reading;
+use reading::Reading;
 use run::Advice;
 use run::Answer;
 use run::Reported;

@@ -4,13 +4,13 @@ use Prim.Native.Nat.{ℕ}
 use mathlib.Core.Path.{_≡_}
 use mathlib.Core.List.{List}
 use Rattle.game.specs.Arena.{Arena, positionAt}
-use Rattle.decode.specs.Rows.{RowIs}
+use Rattle.game.specs.Rows.{RowIs}
 use Rattle.chart.specs.Meaning.{arenaOf}
 use Rattle.chart.specs.Examined.{examined}
 use Rattle.refusal.specs.Numbers.{refusalNumber, refusalLine}
 use Rattle.chart.specs.declared.Examination.{Examination}
 use Rattle.chart.specs.declared.Examination.the-variants.{Accepted as Taken, Refused as Turned}
-use Rattle.solver.specs.Held.{Decoded}
+use Rattle.round.specs.Held.{Decoded}
 use Rattle.plate.specs.Formed.{formOf}
 use Rattle.plate.specs.Read.{headerIn, valueIn, choiceIn, stepIn}
 use Rattle.plate.specs.declared.Form.{Form as PlateForm}

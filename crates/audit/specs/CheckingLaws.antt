@@ -7,14 +7,14 @@ use mathlib.Core.List.{List}
 use Rattle.game.specs.Value.{Value, fin, ever, numberOf}
 use Rattle.game.specs.Arena.{Arena, size, positionAt}
 use Rattle.game.specs.Play.{targetOf}
-use Rattle.decode.specs.Rows.{RowIs}
+use Rattle.game.specs.Rows.{RowIs}
 use Rattle.chart.specs.Meaning.{arenaOf}
 use Rattle.chart.specs.Examined.{examined}
 use Rattle.chart.specs.Accepted.{accepted-chartable, accepted-moves, froms-rise}
 use Rattle.chart.specs.declared.Chart.{Chart}
 use Rattle.refusal.specs.declared.Refusal.{Refusal}
 use Rattle.chart.specs.declared.Examination.the-variants.{Accepted as Taken, Refused as Turned}
-use Rattle.solver.specs.Held.{Decoded}
+use Rattle.round.specs.Held.{Decoded}
 use Rattle.choice.specs.Summarize.{rowValue}
 use Rattle.choice.specs.declared.summary.Summary.{Summary}
 use Rattle.plate.specs.Form.{OfForm}

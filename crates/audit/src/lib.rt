@@ -2,7 +2,7 @@
 ghost use mathlib.Core.Path.{_≡_};
 ghost use Prim.Native.Nat.{_≤_};
 ghost use lib.ListN.{length};
-ghost use Rattle.solver.specs.Solve.{Within};
+ghost use Rattle.round.specs.Round.{Within};
 ghost use Rattle.value.specs.Valuing.{Decodable};
 ghost use Rattle.plate.specs.Formed.{formOf};
 ghost use Rattle.verdict.specs.Sheet.{Ascending};

@@ -6,8 +6,8 @@ use Rattle.value.specs.Valuing.{ValuedIs}
 use Rattle.weighing.specs.Weighing.{WeighedIs}
 use Rattle.value.specs.declared.valuing.Valued.{Valued}
 use Rattle.weighing.specs.declared.Weighed.{Weighed}
-use Rattle.plate.specs.Reading.{ReadingIs}
-use Rattle.plate.specs.declared.reading.Reading.{Reading}
+use Rattle.reading.specs.Reading.{ReadingIs}
+use Rattle.reading.specs.declared.Reading.{Reading}
 use Rattle.writing.specs.Writing.{WrittenIs}
 use Rattle.writing.specs.declared.Written.{Written}
 use Rattle.compare.specs.Compared.{ComparedIs}

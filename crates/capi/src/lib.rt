@@ -20,7 +20,7 @@ use answers::written_numbers;
 use audit::Numbers;
 use audit::check;
 use compare::compare;
-use plate::reading::read_plate;
+use reading::read_plate;
 use run::Run;
 use value::valuing::value_chart;
 use weighing::weigh_chart;

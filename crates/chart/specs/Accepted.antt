@@ -6,11 +6,11 @@ use native.Mathlib.Nat.{le-trans}
 use mathlib.Core.Path.{_≡_, refl, sym, ap, _∙_, subst}
 use mathlib.Core.Logic.{inl, inr, ⊎-elim}
 use mathlib.Core.Bool.{Bool, true, false, cond}
-use mathlib.Core.List.{List, [], _∷_, List·Memᴰ, List·Memᴰ·cases-cons, List·Memᴰ·not-nil, Memᴰ·cast}
-use mathlib.Core.List.List·Memᴰ.{List·Memᴰ·head, List·Memᴰ·tail}
+use mathlib.Core.List.{List, [], _∷_, List·Memᴰ, Memᴰ·cast}
 use lib.ListN.{length, getD}
 use lib.Dec.{T, ltb, eqb}
 use borrow.Author.Tests.{ltb-true, ltb-false, eqb-true, ne-eqb}
+use Rattle.game.specs.Members.{member-at, at-member}
 use Rattle.game.specs.Arena.{Arena, Position, Move, size, moveAt, noMove, meantMove, disturbanceMove, Meant, mayBeDisturbed, WellFormed}
 use Rattle.chart.specs.Text.{letterAt, positionsOf, movesOf, fromAt, toAt}
 use Rattle.chart.specs.Meaning.{ownerOf, costOf, positionOn, moveOn, arenaOf, Rises, Chartable}
@@ -19,17 +19,6 @@ use Rattle.chart.specs.Good.{GoodChart, accepted-good}
 use Rattle.chart.specs.Arenas.{arena-size, arena-moves, arena-position, arena-move}
 use Rattle.chart.specs.declared.Chart.{Chart}
 use Rattle.chart.specs.declared.Examination.the-variants.{Accepted}
-
--- a member of a list stands at an index, and what stands at an index is a member
-pub member-at : {A : Type 0} (d x : A) (l : List A) → List·Memᴰ x l → (j : ℕ) × (j < length l) × (getD l j d ≡ x)
-member-at d x [] m = absurd (List·Memᴰ·not-nil m)
-member-at d x (y ∷ l) m =
-    ⊎-elim (λ e. (0, omega arith, sym e)) (λ k. let w = member-at d x l k in (suc (w .0), omega (arith, w .1), w .2)) (List·Memᴰ·cases-cons m)
-
-pub at-member : {A : Type 0} (d : A) (l : List A) (j : ℕ) → j < length l → List·Memᴰ (getD l j d) l
-at-member d [] j h = absurd (omega arith)
-at-member d (y ∷ l) zero h = List·Memᴰ·head refl
-at-member d (y ∷ l) (suc j) h = List·Memᴰ·tail (at-member d l j (omega arith))
 
 -- the test of two moves is the order of moves
 above-rises : (a b : Move) → above (a .from) (a .cost) (a .to) (b .from) (b .cost) (b .to) ≡ true → Rises a b
@@ -184,3 +173,7 @@ pub froms-rise : (a : Arena) → Chartable a → (i j : ℕ) → i ≤ j → j <
 froms-rise a c i j h k =
     let e : i + (j - i) ≡ j = omega arith in
     subst (λ (k : ℕ). moveAt a i .from ≤ moveAt a k .from) e (froms-step a c i (j - i) (omega arith))
+
+-- at most 512 positions
+pub accepted-few : (text : List ℕ) (chart : Chart) → examined text ≡ Accepted chart → chart .positions ≤ 512
+accepted-few text chart e = let n = accepted-size text chart e in let h = accepted-chartable text chart e .few-positions in omega arith

@@ -10,6 +10,7 @@ use Rattle.field.specs.declared.Field.{Field}
 use Rattle.chart.specs.Text.{letterAt, firstAt, secondAt, endAt, markAt, numberOf, isNumber, positionsOf, movesOf, fromAt, toAt}
 use Rattle.chart.specs.Meaning.{costOf}
 use Rattle.chart.specs.declared.Chart.{Chart}
+use Rattle.chart.specs.declared.Row.{Row}
 use Rattle.refusal.specs.declared.Refusal.the-variants.{Length, Form, Limits, Count, Sequence, Endpoint, Disturbed, Order, NoMeant}
 use Rattle.chart.specs.declared.Finding.{Finding}
 use Rattle.chart.specs.declared.Finding.the-variants.{Clean, Fault}
@@ -61,6 +62,10 @@ judgedPosition ok i position mark =
 
 unfoldable pub positionFinding : List ℕ → ℕ → Finding
 positionFinding text i = judgedPosition (positionFormed text i) i (fromAt text i) (numberOf (markAt text i))
+
+-- the same from the line's columns
+unfoldable pub positionRowFinding : Row → ℕ → Finding
+positionRowFinding row i = judgedPosition (formed (row .letter) (row .first) (row .second) (row .end) 79 76) i (numberOf (row .first)) (numberOf (row .second))
 
 -- "by from, then M before D, then by to": the second move is above the first
 unfoldable pub above : ℕ → ℕ → ℕ → ℕ → ℕ → ℕ → Bool

@@ -19,7 +19,7 @@ use Rattle.chart.specs.Text.{letterAt, firstAt, secondAt, endAt, markAt,
 use Rattle.chart.specs.Meaning.{ownerOf, ownerLetter, costOf, costLetter, positionOn, moveOn, onLines, arenaOf, lineText, positionText, moveText, linesText, chartText, Rises, Chartable}
 use Rattle.chart.specs.Examined.{examined}
 use Rattle.chart.specs.Good.{Formed, GoodPosition, GoodMove, GoodChart, accepted-good}
-use Rattle.chart.specs.Accepted.{member-at, at-member}
+use Rattle.game.specs.Members.{member-at, at-member}
 use Rattle.chart.specs.Arenas.{on-lines-length}
 use Rattle.chart.specs.Lines.{Reads, line-length, reads-line, line-reads, lines-text, lines-length, lines-at}
 use Rattle.chart.specs.Refusals.{PositionLine, MoveLine, Allowed, BadLength, BadForm, OutsideLimits, WrongCount, OutOfSequence, BadEndpoint, BadDisturbance, OutOfOrder, WithoutMeant, Applies}

@@ -4,10 +4,10 @@ ghost use mathlib.Core.Path.{_≡_};
 ghost use mathlib.Core.Bool.{cond, false};
 ghost use Prim.Native.Nat.{ℕ, _+_, _-_, _*_, _≤_, _<_};
 ghost use lib.ListN.{length, getD};
-ghost use Rattle.chart.specs.Text.{letterAt, markAt, fromAt, toAt, numberOf, isNumber};
+ghost use Rattle.chart.specs.Text.{letterAt, numberOf};
 ghost use Rattle.chart.specs.Columns.{rowAt, meantRow};
 ghost use Rattle.chart.specs.Meaning.{costOf};
-ghost use Rattle.chart.specs.Examined.{numbered, formed, headerOf, limitsOf, positionFinding, judgedPosition, moveFinding, judgedMove, ordered, above, lineFinding, firstOf, meantIn, unflaggedAt, afterHeader, examined};
+ghost use Rattle.chart.specs.Examined.{numbered, formed, headerOf, limitsOf, positionRowFinding, judgedPosition, moveFinding, judgedMove, ordered, above, lineFinding, firstOf, meantIn, unflaggedAt, afterHeader, examined};
 use field::Field;
 use field::read;
 use refusal::Refusal;
@@ -74,8 +74,11 @@ fn header(text: &[u8]) -> Examination
     requires { ⌜ 12 ≤ length (now text) ⌝ }
     ensures { λ r. ⌜ r ≡ headerOf (now (text .entry)) ⌝ }
 {
-    let ok = formed(text[0], read(text, 1), read(text, 6), text[11], b'H', b'H');
-    limits(ok, text.len(), from_at(text, 0), to_at(text, 0))
+    let row = row_at(text, 0);
+    let first = row.first;
+    let second = row.second;
+    let ok = formed(row.letter, first, second, row.end, b'H', b'H');
+    limits(ok, text.len(), number(first), number(second))
 }
 
 fn limits(ok: bool, size: usize, n: usize, m: usize) -> Examination
@@ -167,20 +170,20 @@ fn line_fault(text: &[u8], n: usize, line: usize, row: Row, before: Row) -> Find
     ensures { λ r. ⌜ r ≡ lineFinding (now (text .entry)) n line ⌝ }
 {
     if line <= n {
-        position_fault(text, line)
+        position_fault(line, row)
     } else {
         move_fault(text, n, line, row, before)
     }
 }
 
-fn position_fault(text: &[u8], line: usize) -> Finding
-    requires { ⌜ (1 ≤ line) × ((line + 1) * 12 ≤ length (now text)) ⌝ }
-    ensures { λ r. ⌜ r ≡ positionFinding (now (text .entry)) line ⌝ }
+// A position line from its columns, of which the second field is the mark.
+fn position_fault(line: usize, row: Row) -> Finding
+    requires { ⌜ 1 ≤ line ⌝ }
+    ensures { λ r. ⌜ r ≡ positionRowFinding row line ⌝ }
 {
-    let at = line * Chart::LINE;
-    let first = read(text, at + 1);
-    let mark = mark_at(text, line);
-    let ok = formed(text[at], first, mark, text[at + 11], b'O', b'L');
+    let first = row.first;
+    let mark = row.second;
+    let ok = formed(row.letter, first, mark, row.end, b'O', b'L');
     judge_position(ok, line, number(first), number(mark))
 }
 
@@ -360,21 +363,6 @@ fn unflagged(flags: &[u8], n: usize) -> Finding
     Finding::Clean
 }
 
-// The numbers of a line's two fields; 0 stands for a bad field. The bounds keep the line within the text.
-pub fn from_at(text: &[u8], line: usize) -> usize
-    requires { ⌜ (line + 1) * 12 ≤ length (now text) ⌝ }
-    ensures { λ r. ⌜ r ≡ fromAt (now (text .entry)) line ⌝ }
-{
-    number(read(text, line * Chart::LINE + 1))
-}
-
-pub fn to_at(text: &[u8], line: usize) -> usize
-    requires { ⌜ (line + 1) * 12 ≤ length (now text) ⌝ }
-    ensures { λ r. ⌜ r ≡ toAt (now (text .entry)) line ⌝ }
-{
-    number(read(text, line * Chart::LINE + 6))
-}
-
 // A line's letter; 0 past the end, as for a line that a bad move names.
 fn letter_at(text: &[u8], line: usize) -> u8
     requires { ⌜ line ≤ 100000 ⌝ }
@@ -384,15 +372,8 @@ fn letter_at(text: &[u8], line: usize) -> u8
     if at < text.len() { text[at] } else { 0 }
 }
 
-// The mark of a position line.
-pub fn mark_at(text: &[u8], line: usize) -> Field
-    requires { ⌜ (line + 1) * 12 ≤ length (now text) ⌝ }
-    ensures { λ r. ⌜ r ≡ markAt (now (text .entry)) line ⌝ }
-{
-    read(text, line * Chart::LINE + 6)
-}
-
-pub fn number(f: Field) -> usize
+// A field's number; 0 stands for a bad field.
+fn number(f: Field) -> usize
     ensures { λ r. ⌜ r ≡ numberOf f ⌝ }
 {
     match f {

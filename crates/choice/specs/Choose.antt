@@ -9,9 +9,9 @@ use Rattle.game.specs.Value.{Value, numberOf}
 use Rattle.game.specs.ValueLaws.{Fits}
 use Rattle.game.specs.Arena.{Arena}
 use Rattle.game.specs.Best.{bestAt}
-use Rattle.decode.specs.Rows.{RowIs}
-use Rattle.solver.specs.RowLaws.{Stays}
-use Rattle.solver.specs.Held.{Decoded}
+use Rattle.game.specs.Rows.{RowIs}
+use Rattle.round.specs.RowLaws.{Stays}
+use Rattle.round.specs.Held.{Decoded}
 
 -- w is better than the best so far: there is none, or w has a greater value, or an equal one and a lower number. As
 -- numbers too, 65,535 is above each value.

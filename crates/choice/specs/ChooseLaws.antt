@@ -15,11 +15,11 @@ use Rattle.game.specs.ValueLaws.{Fits}
 use Rattle.game.specs.Arena.{Arena, Move, Owner, controller, environment, size, ownerAt, moveAt, noMove}
 use Rattle.game.specs.Table.{meantFrom}
 use Rattle.game.specs.Best.{better, bestIn, bestAs, bestAt}
-use Rattle.decode.specs.Rows.{RowIs, ownerNumber}
-use Rattle.solver.specs.RowLaws.{Stays, setIf, setIf-stays}
-use Rattle.solver.specs.Solve.{Within}
-use Rattle.solver.specs.Held.{Decoded}
-use Rattle.solver.specs.HeldLaws.{to-inside}
+use Rattle.game.specs.Rows.{RowIs, ownerNumber}
+use Rattle.round.specs.RowLaws.{Stays, setIf, setIf-stays}
+use Rattle.round.specs.Round.{Within}
+use Rattle.round.specs.Held.{Decoded}
+use Rattle.round.specs.HeldLaws.{to-inside}
 use Rattle.choice.specs.Choose.{Chosen, isBetter, Fitting, ownMove, bestBelow, ValuesAre}
 
 -- the row after the first i moves

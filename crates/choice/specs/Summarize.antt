@@ -8,8 +8,8 @@ use lib.ListN.{length, getD}
 use lib.Dec.{eqb, leb}
 use Rattle.game.specs.Value.{Value, valueOf, numberOf}
 use Rattle.game.specs.Summary.{pairCount, highest, everCount, countBelow}
-use Rattle.solver.specs.RowLaws.{setIf}
-use Rattle.solver.specs.Solve.{bit, free}
+use Rattle.round.specs.RowLaws.{setIf}
+use Rattle.round.specs.Round.{bit, free}
 use Rattle.choice.specs.declared.summary.Summary.{Summary}
 
 -- a row of numbers as values

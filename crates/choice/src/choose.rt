@@ -3,11 +3,11 @@ ghost use mathlib.Core.Path.{_≡_};
 ghost use mathlib.Core.Bool.{_&&_};
 ghost use Prim.Native.Nat.{_<_, _≤_};
 ghost use lib.ListN.{length, getD};
-ghost use Rattle.solver.specs.RowLaws.{setIf};
-ghost use Rattle.solver.specs.Solve.{AtMove, Within};
+ghost use Rattle.round.specs.RowLaws.{setIf};
+ghost use Rattle.round.specs.Round.{AtMove, Within};
 ghost use Rattle.choice.specs.Choose.{Chosen, Fitting, isBetter, ownMove};
-use solver::solve::NONE;
-use solver::solve::clear;
+use round::NONE;
+use round::clear;
 
 // The target w is better than the best so far.
 fn is_better(values: &[u16], best: u16, w: u16) -> bool

@@ -10,8 +10,8 @@ use Rattle.chart.specs.Meaning.{arenaOf}
 use Rattle.choice.specs.Summarize.{rowValue}
 use Rattle.choice.specs.declared.summary.Summary.{Summary}
 use Rattle.plate.specs.Read.{valueIn}
-use Rattle.plate.specs.Reading.{ReadingIs}
-use Rattle.plate.specs.declared.reading.Reading.the-variants.{Rows}
+use Rattle.reading.specs.Reading.{ReadingIs}
+use Rattle.reading.specs.declared.Reading.the-variants.{Rows}
 use Rattle.compare.specs.Comparing.{compared}
 use Rattle.compare.specs.declared.Compared.{Compared}
 use Rattle.compare.specs.declared.Compared.the-variants.{Agree, Differ}

@@ -19,9 +19,9 @@ use Rattle.weighing.specs.Weighing.{weighed}
 use Rattle.weighing.specs.declared.Weighed.{Weighed}
 use Rattle.weighing.specs.declared.Weighed.the-variants.{Done, Refused as NotWeighed, Short as NoWorths, Choice as Unlawful}
 use Rattle.plate.specs.Read.{valueIn}
-use Rattle.plate.specs.Reading.{reading}
-use Rattle.plate.specs.declared.reading.Reading.{Reading}
-use Rattle.plate.specs.declared.reading.Reading.the-variants.{Rows, Refused as NotRead, Short as NoRows, Malformed}
+use Rattle.reading.specs.Reading.{reading}
+use Rattle.reading.specs.declared.Reading.{Reading}
+use Rattle.reading.specs.declared.Reading.the-variants.{Rows, Refused as NotRead, Short as NoRows, Malformed}
 use Rattle.audit.specs.Checking.{checked, numbersFrom}
 use Rattle.audit.specs.declared.Numbers.{Numbers}
 use Rattle.audit.specs.declared.Checked.{Checked}

@@ -29,9 +29,9 @@ use Rattle.weighing.specs.declared.Weighed.the-variants.{Done}
 use Rattle.plate.specs.Read.{valueIn, choiceIn}
 use Rattle.plate.specs.RangeLaws.{below-fits}
 use Rattle.plate.specs.RoundTrip.{read-in-range}
-use Rattle.plate.specs.Reading.{reading, ReadingIs}
-use Rattle.plate.specs.declared.reading.Reading.{Reading}
-use Rattle.plate.specs.declared.reading.Reading.the-variants.{Rows}
+use Rattle.reading.specs.Reading.{reading, ReadingIs}
+use Rattle.reading.specs.declared.Reading.{Reading}
+use Rattle.reading.specs.declared.Reading.the-variants.{Rows}
 use Rattle.verdict.specs.Verdict.{RightPlate}
 use Rattle.audit.specs.Checking.{checked}
 use Rattle.audit.specs.AnswersExact.{answer-exactly}

@@ -19,7 +19,7 @@ use Rattle.weighing.specs.Weighing.{legalRow, weighed, weighedBy}
 use Rattle.weighing.specs.declared.Weighed.the-variants.{Done, Choice as Unlawful}
 use Rattle.plate.specs.Formed.{formOf}
 use Rattle.plate.specs.Read.{headerIn, valueIn, choiceIn, stepIn}
-use Rattle.plate.specs.Reading.{answerTo, readBy, reading}
+use Rattle.reading.specs.Reading.{answerTo, readBy, reading}
 use Rattle.plate.specs.declared.Form.{Form as PlateForm}
 use Rattle.plate.specs.declared.Form.the-variants.{Good, Bad}
 use Rattle.verdict.specs.Verdict.{verdictOf}

@@ -1,3 +1,2 @@
-pub mod Rows
 pub mod Loaded
-pub mod Filled
+pub mod LoadedLaws

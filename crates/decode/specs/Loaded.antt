@@ -8,17 +8,11 @@ use Rattle.game.specs.Arena.{Arena, size, ownerAt, positionAt, moveAt}
 use Rattle.chart.specs.Text.{letterAt, markAt, numberOf, fromAt, toAt}
 use Rattle.chart.specs.Meaning.{ownerOf, costOf, arenaOf}
 use Rattle.chart.specs.Examined.{examined}
-use Rattle.decode.specs.Rows.{RowIs, ownerNumber}
+use Rattle.game.specs.Rows.{Filled, ownerNumber}
 use Rattle.chart.specs.declared.Chart.{Chart}
 use Rattle.refusal.specs.declared.Refusal.{Refusal}
 use Rattle.chart.specs.declared.Examination.{Examination}
 use Rattle.chart.specs.declared.Examination.the-variants.{Accepted, Refused}
-
--- a row whose first `count` numbers became those of f, while the others stayed
-pub record Filled (old new : List ℕ) (count : ℕ) (f : ℕ → ℕ) : Type 0 where
-  pub row : RowIs new count f
-  pub rest : (k : ℕ) → count ≤ k → getD new k 0 ≡ getD old k 0
-  pub same-length : length new ≡ length old
 
 -- the rows of n positions, position v on line v + 1
 pub record PositionRows (text : List ℕ) (n : ℕ) (owners₀ owners marks₀ marks : List ℕ) : Type 0 where

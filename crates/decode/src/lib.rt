@@ -4,16 +4,13 @@ ghost use Prim.Native.Nat.{_+_, _≤_};
 ghost use lib.ListN.{length};
 ghost use Rattle.chart.specs.Examined.{examined};
 ghost use Rattle.chart.specs.Meaning.{ownerOf};
-ghost use Rattle.decode.specs.Rows.{ownerNumber};
+ghost use Rattle.game.specs.Rows.{ownerNumber};
 ghost use Rattle.decode.specs.Loaded.{PositionRows, MoveRows, LoadIs};
 use chart::Chart;
 use chart::Examination;
 use chart::cost;
 use chart::examine;
-use chart::from_at;
-use chart::mark_at;
-use chart::number;
-use chart::to_at;
+use field::decimal;
 
 // Examines a chart and, where it is accepted, decodes it into rows: owner (0 the controller, 1 the environment) and mark of
 // each position, cost (0 meant, 1 a disturbance), from and to of each move. What lies past them stays, and on a refusal all
@@ -49,8 +46,9 @@ fn decode_positions(text: &[u8], chart: Chart, owners: &mut [u8], marks: &mut [u
     let n = chart.positions;
     let mut v = 0;
     while v < n {
-        owners[v] = owner(text[(v + 1) * Chart::LINE]);
-        marks[v] = number(mark_at(text, v + 1)) as u8;
+        let at = (v + 1) * Chart::LINE;
+        owners[v] = owner(text[at]);
+        marks[v] = decimal(text, at + 6) as u8;
         v += 1;
     }
 }
@@ -65,10 +63,10 @@ fn decode_moves(text: &[u8], chart: Chart, costs: &mut [u8], froms: &mut [u16], 
     let m = chart.moves;
     let mut i = 0;
     while i < m {
-        let line = first + i;
-        costs[i] = cost(text[line * Chart::LINE]);
-        froms[i] = from_at(text, line) as u16;
-        tos[i] = to_at(text, line) as u16;
+        let at = (first + i) * Chart::LINE;
+        costs[i] = cost(text[at]);
+        froms[i] = decimal(text, at + 1) as u16;
+        tos[i] = decimal(text, at + 6) as u16;
         i += 1;
     }
 }

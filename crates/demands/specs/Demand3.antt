@@ -17,8 +17,8 @@ use Rattle.choice.specs.Summarize.{rowValue}
 use Rattle.choice.specs.declared.summary.Summary.{Summary}
 use Rattle.weighing.specs.Weighing.{weighed, WeighedIs}
 use Rattle.weighing.specs.declared.Weighed.the-variants.{Done}
-use Rattle.plate.specs.Reading.{ReadingIs}
-use Rattle.plate.specs.declared.reading.Reading.the-variants.{Rows}
+use Rattle.reading.specs.Reading.{ReadingIs}
+use Rattle.reading.specs.declared.Reading.the-variants.{Rows}
 use Rattle.demands.specs.Sanctioned.{Sanctioned}
 
 -- the plate, as Reading gives it: the row of its values, and that of its choices

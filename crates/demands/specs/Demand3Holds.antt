@@ -36,7 +36,7 @@ use Rattle.plate.specs.Read.{valueIn, choiceIn, stepIn}
 use Rattle.plate.specs.Range.{Below}
 use Rattle.plate.specs.RangeLaws.{below-fits}
 use Rattle.plate.specs.RoundTrip.{read-in-range}
-use Rattle.plate.specs.ReadingTrip.{reading-took}
+use Rattle.reading.specs.ReadingTrip.{reading-took}
 use Rattle.verdict.specs.Verdict.{RightPlate}
 use Rattle.audit.specs.Answers.{AcceptedIs}
 use Rattle.audit.specs.AnswersExact.{answer-exactly}

@@ -13,7 +13,7 @@ use lib.ListN.{length, take, drop}
 use lib.Seq.{getD-drop, sets-eq, drop-at, drop-cons, length-take-le}
 use lib.Dec.{ltb, eqb}
 use borrow.Author.Tests.{ltb-true, ltb-false, eqb-true, eqb-false, lt-ltb, le-ltb, ne-eqb}
-use Rattle.field.specs.Text.{Scan, Spaces, Zero, Digits, Wrong, digitAfter, stepped, scan, ended, fieldOf, five, fieldAt, placeByte, numberText, withNumber}
+use Rattle.field.specs.Text.{Scan, Spaces, Zero, Digits, Wrong, digitAfter, stepped, scan, ended, fieldOf, five, fieldAt, decimal, decimalAt, placeByte, numberText, withNumber}
 use Rattle.field.specs.declared.Field.{Field}
 use Rattle.field.specs.declared.Field.the-variants.{Number, Bad}
 
@@ -223,6 +223,44 @@ number-reads x h =
 -- five bytes read as x exactly when they are the bytes of x
 pub field-exact : (bytes : List ℕ) (x : ℕ) → length bytes ≡ 5 → fieldOf bytes ≡ Number x ↔ (bytes ≡ numberText x) × (x ≤ 99999)
 field-exact bytes x l = (reads-number bytes x l, λ w. ap fieldOf (w .0) ∙ number-reads x (w .1))
+
+-- and those bytes spell it without a test
+low-digit : (d : ℕ) → d < 10 → (48 + d) % 16 ≡ d
+low-digit d h = omega arith
+
+low-place : (x unit : ℕ) → (x < unit → x / unit % 10 ≡ 0) → x / unit % 10 < 10 → placeByte x unit % 16 ≡ x / unit % 10
+low-place x unit none small = go (ltb x unit) refl
+  where
+    go : (p : Bool) → ltb x unit ≡ p → placeByte x unit % 16 ≡ x / unit % 10
+    go true e = let h : x < unit = ltb-true x unit e in ap (λ (b : ℕ). b % 16) (place-space x unit h) ∙ sym (none h)
+    go false e = ap (λ (b : ℕ). b % 16) (place-digit x unit (x / unit % 10) (ltb-false x unit e) refl) ∙ low-digit (x / unit % 10) small
+
+number-spells : (x : ℕ) → x ≤ 99999 → decimal 0 (numberText x) ≡ x
+unfolding decimal numberText
+number-spells x h =
+    let first : 0 * 10 + x / 10000 % 10 ≡ x / 10000 = omega arith in
+    let second : x / 10000 * 10 + x / 1000 % 10 ≡ x / 1000 = omega arith in
+    let third : x / 1000 * 10 + x / 100 % 10 ≡ x / 100 = omega arith in
+    let fourth : x / 100 * 10 + x / 10 % 10 ≡ x / 10 = omega arith in
+    let fifth : x / 10 * 10 + x % 10 ≡ x = omega arith in
+    rw (
+      low-place x 10000 (λ k. omega arith) (omega arith),
+      low-place x 1000 (λ k. omega arith) (omega arith),
+      low-place x 100 (λ k. omega arith) (omega arith),
+      low-place x 10 (λ k. omega arith) (omega arith),
+      low-digit (x % 10) (omega arith),
+      first,
+      second,
+      third,
+      fourth,
+    )
+    fifth
+
+pub field-spells : (text : List ℕ) (at x : ℕ) → fieldAt text at ≡ Number x → decimalAt text at ≡ x
+unfolding fieldAt decimalAt five
+field-spells text at x e =
+    let r = reads-number (five text at) x refl e in
+    ap (decimal 0) (r .0) ∙ number-spells x (r .1)
 
 -- the field at `at` is that of what follows `at`
 pub field-of-rest : (text : List ℕ) (at : ℕ) → fieldAt text at ≡ fieldAt (drop at text) 0

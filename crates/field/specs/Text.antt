@@ -49,6 +49,14 @@ five text at = getD text at 0 ∷ getD text (at + 1) 0 ∷ getD text (at + 2) 0 
 unfoldable pub fieldAt : List ℕ → ℕ → Field
 fieldAt text at = fieldOf (five text at)
 
+-- the number that bytes spell if they are a field's number: a digit's last four bits are its worth, and a space's are 0
+unfoldable pub decimal : ℕ → List ℕ → ℕ
+decimal x [] = x
+decimal x (b ∷ bs) = decimal (x * 10 + b % 16) bs
+
+unfoldable pub decimalAt : List ℕ → ℕ → ℕ
+decimalAt text at = decimal 0 (five text at)
+
 -- the byte of x in the place of `unit`: a space before the first digit
 unfoldable pub placeByte : ℕ → ℕ → ℕ
 placeByte x unit = cond (ltb x unit) 32 (48 + x / unit % 10)

@@ -6,7 +6,7 @@ ghost use mathlib.Core.List.{[], _∷_};
 ghost use Prim.Native.Nat.{_+_, _-_, _≤_, _<_};
 ghost use lib.ListN.{length};
 ghost use lib.Dec.{eqb};
-ghost use Rattle.field.specs.Text.{Digits, scan, ended, fieldAt, withNumber, placeByte};
+ghost use Rattle.field.specs.Text.{Digits, scan, ended, fieldAt, decimalAt, withNumber, placeByte};
 ghost use Rattle.field.specs.Reader.{isDigit};
 
 // What five bytes read as.
@@ -41,6 +41,20 @@ pub fn read(text: &[u8], at: usize) -> Field
         return digits(b'0', b'0', b'0', b'0', e);
     }
     Field::Bad
+}
+
+// The number of a field that was found to be one. No byte is tested again: a digit's last four bits are its worth, and a space's
+// are 0. The bound keeps the five bytes within the text.
+pub fn decimal(text: &[u8], at: usize) -> u32
+    requires { ⌜ at + 5 ≤ length (now text) ⌝ }
+    ensures { λ r. ⌜ r ≡ decimalAt (now (text .entry)) at ⌝ }
+{
+    let a = (text[at] % 16) as u32;
+    let b = (text[at + 1] % 16) as u32;
+    let c = (text[at + 2] % 16) as u32;
+    let d = (text[at + 3] % 16) as u32;
+    let e = (text[at + 4] % 16) as u32;
+    (((a * 10 + b) * 10 + c) * 10 + d) * 10 + e
 }
 
 // The field of x into its five places from `at`. The bound keeps them within the text. A number above 99,999 is cut to its

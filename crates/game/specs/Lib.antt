@@ -10,10 +10,13 @@ pub mod Certificate
 pub mod Summary
 pub mod Restrict
 pub mod Journal
+pub mod Rows
 pub mod Table
 pub mod Best
 pub mod Fault
 pub mod FirstFault
+pub mod Members
+pub mod Filling
 pub mod ValueLaws
 pub mod PlayLaws
 pub mod Bounds

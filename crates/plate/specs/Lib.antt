@@ -13,6 +13,3 @@ pub mod RangeLaws
 pub mod Columns
 pub mod RoundTrip
 pub mod RowTrip
-pub mod Reading
-pub mod ReadingLaws
-pub mod ReadingTrip

@@ -4,7 +4,7 @@ use Prim.Native.Nat.{ℕ, _+_}
 use mathlib.Core.Path.{_≡_}
 use mathlib.Core.List.{List}
 use Rattle.game.specs.Value.{Value, fin, ever, numberOf}
-use Rattle.decode.specs.Loaded.{Filled}
+use Rattle.game.specs.Rows.{Filled}
 use Rattle.choice.specs.declared.summary.Summary.{Summary}
 use Rattle.plate.specs.Form.{secondAt, thirdAt, fourthAt}
 use Rattle.plate.specs.declared.Entry.{Entry}

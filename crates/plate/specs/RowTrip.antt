@@ -6,7 +6,7 @@ use mathlib.Core.Path.{_≡_, refl, ap, _∙_}
 use mathlib.Core.List.{List, _++_}
 use Rattle.game.specs.Value.{Value, numberOf, valueOf}
 use Rattle.game.specs.ValueLaws.{Fits, value-of-number}
-use Rattle.decode.specs.Rows.{RowIs}
+use Rattle.game.specs.Rows.{RowIs}
 use Rattle.choice.specs.Summarize.{rowValue}
 use Rattle.choice.specs.declared.summary.Summary.{Summary}
 use Rattle.plate.specs.Text.{headerLine, positionLines, plateText}

@@ -1,21 +1,16 @@
-// The plate's text (document 01, "The plate") at the level of rows: a header and three rows of numbers are set out as lines of
-// 22 bytes, and a plate of the form under 11 is read back into them. 65,535 stands for `ever` and `-` in the rows.
-pub mod reading;
-
+// The plate's text (document 01, "The plate") at the level of rows: whether a text is of the form under 11, and the header and the
+// three rows of numbers of one that is. 65,535 stands for `ever` and `-` in the rows.
 ghost use mathlib.Core.Path.{_≡_};
-ghost use mathlib.Core.List.{[], _∷_, _++_};
-ghost use Prim.Native.Nat.{_+_, _*_, _≤_, _<_};
-ghost use lib.ListN.{length, drop};
-ghost use lib.Seq.{sets};
+ghost use mathlib.Core.List.{[], _∷_};
+ghost use Prim.Native.Nat.{_+_, _*_, _≤_};
+ghost use lib.ListN.{length};
 ghost use Rattle.field.specs.Text.{five};
-ghost use Rattle.game.specs.Value.{valueOf};
-ghost use Rattle.choice.specs.Summarize.{rowValue};
-ghost use Rattle.plate.specs.Text.{entryAt, withEntry, sameText, lineText, valueEntry, dashEntry, positionLine, positionLines, plateText};
+ghost use Rattle.plate.specs.Text.{entryAt, sameText};
 ghost use Rattle.plate.specs.Formed.{numberIs, numberBelow, dashOrBelow, everOrBelow, framed, headerGood, positionGood, firstBad, formOf};
 ghost use Rattle.plate.specs.Read.{entryNumber, RowsRead};
 use choice::summary::Summary;
 use field::Field;
-use solver::solve::NONE;
+use round::NONE;
 
 // The bytes of a line.
 pub const LINE: usize = 22;
@@ -32,120 +27,6 @@ pub enum Entry {
 pub enum Form {
     Good,
     Bad(usize),
-}
-
-// A plate of n positions into `out`; what lies past its last line stays. The bounds keep the rows and the buffer long enough,
-// and the count within its field.
-pub fn write_rows(
-    n: usize,
-    header: Summary,
-    values: &[u16],
-    choices: &[u16],
-    steps: &[u16],
-    out: &mut [u8],
-)
-    requires { ⌜ (n ≤ 512) × (n ≤ length (now values)) × (n ≤ length (now choices)) × (n ≤ length (now steps)) ⌝ }
-    requires { ⌜ (n + 1) * 22 ≤ length (now out) ⌝ }
-    ensures { λ _. ⌜ now (out .exit) ≡ plateText n header (rowValue (now (values .entry))) (rowValue (now (choices .entry))) (rowValue (now (steps .entry))) ++ drop ((n + 1) * 22) (now (out .entry)) ⌝ }
-{
-    write_line(
-        b'P',
-        Entry::Number(n as u32),
-        Entry::Number(header.rounds as u32),
-        dash_entry(header.highest),
-        Entry::Number(header.evers as u32),
-        out,
-    );
-    let at = LINE;
-    write_positions(n, values, choices, steps, &mut out[at..]);
-}
-
-// The lines of n positions into the part of the buffer that begins with them, each into its own part of it.
-fn write_positions(n: usize, values: &[u16], choices: &[u16], steps: &[u16], lines: &mut [u8])
-    requires { ⌜ (n ≤ 512) × (n ≤ length (now values)) × (n ≤ length (now choices)) × (n ≤ length (now steps)) ⌝ }
-    requires { ⌜ n * 22 ≤ length (now lines) ⌝ }
-    ensures { λ _. ⌜ now (lines .exit) ≡ positionLines (rowValue (now (values .entry))) (rowValue (now (choices .entry))) (rowValue (now (steps .entry))) n ++ drop (n * 22) (now (lines .entry)) ⌝ }
-{
-    let mut v = 0;
-    while v < n {
-        let at = v * LINE;
-        write_position(v, values[v], choices[v], steps[v], &mut lines[at..]);
-        v += 1;
-    }
-}
-
-// A position's line into the part of the buffer that begins with it.
-fn write_position(v: usize, value: u16, choice: u16, step: u16, part: &mut [u8])
-    requires { ⌜ (v < 512) × (22 ≤ length (now part)) ⌝ }
-    ensures { λ _. ⌜ now (part .exit) ≡ positionLine v (valueOf value) (valueOf choice) (valueOf step) ++ drop 22 (now (part .entry)) ⌝ }
-{
-    write_line(
-        b'V',
-        Entry::Number(v as u32),
-        value_entry(value),
-        dash_entry(choice),
-        dash_entry(step),
-        part,
-    )
-}
-
-// A line into the first 22 bytes of a part; the others stay.
-fn write_line(letter: u8, a: Entry, b: Entry, c: Entry, d: Entry, part: &mut [u8])
-    requires { ⌜ 22 ≤ length (now part) ⌝ }
-    ensures { λ _. ⌜ now (part .exit) ≡ lineText letter a b c d ++ drop 22 (now (part .entry)) ⌝ }
-{
-    part[0] = letter;
-    write_entry(a, part, 1);
-    write_entry(b, part, 6);
-    write_entry(c, part, 11);
-    write_entry(d, part, 16);
-    part[21] = 10;
-}
-
-// The entry of a value, and of a number in a column of dashes.
-fn value_entry(x: u16) -> Entry
-    ensures { λ r. ⌜ r ≡ valueEntry (valueOf x) ⌝ }
-{
-    if x == NONE {
-        Entry::Ever
-    } else {
-        Entry::Number(x as u32)
-    }
-}
-
-fn dash_entry(x: u16) -> Entry
-    ensures { λ r. ⌜ r ≡ dashEntry (valueOf x) ⌝ }
-{
-    if x == NONE {
-        Entry::Dash
-    } else {
-        Entry::Number(x as u32)
-    }
-}
-
-// An entry into its five places from `at`. The bound keeps them within the text. A bad one is left blank.
-pub fn write_entry(e: Entry, text: &mut [u8], at: usize)
-    requires { ⌜ at + 5 ≤ length (now text) ⌝ }
-    ensures { λ _. ⌜ now (text .exit) ≡ withEntry (now (text .entry)) at e ⌝ }
-{
-    match e {
-        Entry::Number(x) => field::write(x, text, at),
-        Entry::Dash => write_word(b' ', b' ', b' ', b'-', text, at),
-        Entry::Ever => write_word(b'e', b'v', b'e', b'r', text, at),
-        Entry::Bad => write_word(b' ', b' ', b' ', b' ', text, at),
-    }
-}
-
-// A space and four bytes.
-fn write_word(b: u8, c: u8, d: u8, e: u8, text: &mut [u8], at: usize)
-    requires { ⌜ at + 5 ≤ length (now text) ⌝ }
-    ensures { λ _. ⌜ now (text .exit) ≡ sets (now (text .entry)) at (32 ∷ b ∷ c ∷ d ∷ e ∷ []) ⌝ }
-{
-    text[at] = b' ';
-    text[at + 1] = b;
-    text[at + 2] = c;
-    text[at + 3] = d;
-    text[at + 4] = e;
 }
 
 // Whether a text is a plate of n positions of the form under 11, and if not its lowest bad line. Its length is tested first, as
@@ -314,7 +195,7 @@ pub fn read_rows(
 }
 
 // The number of an entry in a row. The bounds keep its bytes within the text, and it within 16 bits.
-fn number_at(plate: &[u8], at: usize) -> u16
+pub fn number_at(plate: &[u8], at: usize) -> u16
     requires { ⌜ (at + 5 ≤ length (now plate)) × (entryNumber (entryAt (now plate) at) ≤ 65535) ⌝ }
     ensures { λ r. ⌜ r ≡ entryNumber (entryAt (now (plate .entry)) at) ⌝ }
 {

@@ -6,8 +6,8 @@ ghost use lib.ListN.{length};
 use cases::Case;
 use cases::case_at;
 use libc::STDIN_FILENO;
-use plate::reading::Reading;
-use plate::reading::read_plate;
+use reading::Reading;
+use reading::read_plate;
 
 fn main() {
     let mut input = [0u8; 8192];

@@ -12,10 +12,10 @@ use Rattle.chart.specs.declared.Examination.the-variants.{Accepted as Taken, Re
 use Rattle.plate.specs.Form.{OfForm}
 use Rattle.plate.specs.Read.{choiceIn}
 use Rattle.audit.specs.Answers.{AcceptedIs, FaultIs, FormIs}
-use Rattle.run.specs.Moves.{moveKind}
+use Rattle.moves.specs.Moves.{moveKind}
 use Rattle.run.specs.Running.{adviceAt, moved, runAt}
-use Rattle.run.specs.declared.moves.Kind.{Kind}
-use Rattle.run.specs.declared.moves.Kind.the-variants.{Meant, Disturbance, Neither}
+use Rattle.moves.specs.declared.Kind.{Kind}
+use Rattle.moves.specs.declared.Kind.the-variants.{Meant, Disturbance, Neither}
 use Rattle.run.specs.declared.Run.{Run}
 use Rattle.run.specs.declared.Started.{Started}
 use Rattle.run.specs.declared.Started.the-variants.{Begun, Refused, Form, Position, Fault}

@@ -26,11 +26,11 @@ use Rattle.verdict.specs.declared.rows.Verdict.{Verdict}
 use Rattle.verdict.specs.declared.rows.Verdict.the-variants.{Sound, Fault as RowFault}
 use Rattle.audit.specs.declared.Checked.{Checked}
 use Rattle.audit.specs.declared.Checked.the-variants.{Accepted, Refused as Rejected, Form as BadForm, Fault as Faulty}
-use Rattle.run.specs.Moves.{moveKind}
+use Rattle.moves.specs.Moves.{moveKind}
 use Rattle.run.specs.Running.{adviceAt, moved, reported, reportedBy, reportedForm, reportedInside, reportedMove, runAt, standing, started, startedBy, unmoved}
 use Rattle.run.specs.Answers.{Moves, Readable, ReportIs, StartIs}
-use Rattle.run.specs.declared.moves.Kind.{Kind}
-use Rattle.run.specs.declared.moves.Kind.the-variants.{Meant, Disturbance, Neither}
+use Rattle.moves.specs.declared.Kind.{Kind}
+use Rattle.moves.specs.declared.Kind.the-variants.{Meant, Disturbance, Neither}
 use Rattle.run.specs.declared.Run.{Run}
 use Rattle.run.specs.declared.Started.{Started}
 use Rattle.run.specs.declared.Started.the-variants.{Begun, Refused, Form, Position, Fault}

@@ -18,14 +18,13 @@ use Rattle.game.specs.Certified.{certificate-is-legal}
 use Rattle.game.specs.Holding.{choices-keep, chosen-move-holds, disturbance-holds, keeping-is-safe}
 use Rattle.chart.specs.Meaning.{arenaOf}
 use Rattle.chart.specs.Examined.{examined}
-use Rattle.chart.specs.Accepted.{accepted-chartable, accepted-size}
+use Rattle.chart.specs.Accepted.{accepted-chartable, accepted-size, accepted-few}
 use Rattle.chart.specs.declared.Examination.{Examination}
 use Rattle.chart.specs.declared.Examination.the-variants.{Accepted as Taken, Refused as Turned}
 use Rattle.plate.specs.Formed.{formOf}
 use Rattle.plate.specs.RangeLaws.{below-fits}
 use Rattle.plate.specs.RoundTrip.{read-in-range}
 use Rattle.plate.specs.Read.{valueIn, choiceIn, stepIn}
-use Rattle.plate.specs.ReadingLaws.{accepted-few}
 use Rattle.plate.specs.declared.Form.{Form as PlateForm}
 use Rattle.plate.specs.declared.Form.the-variants.{Good, Bad}
 use Rattle.audit.specs.Checking.{checked}
@@ -33,12 +32,12 @@ use Rattle.audit.specs.Answers.{AcceptedIs}
 use Rattle.audit.specs.AnswersExact.{answer-exactly}
 use Rattle.audit.specs.declared.Checked.{Checked}
 use Rattle.audit.specs.declared.Checked.the-variants.{Accepted, Refused as Rejected, Form as BadForm, Fault as Faulty}
-use Rattle.run.specs.Moves.{moveKind}
-use Rattle.run.specs.MoveLaws.{meant-follows, disturbance-follows}
+use Rattle.moves.specs.Moves.{moveKind}
+use Rattle.moves.specs.MoveLaws.{meant-follows, disturbance-follows}
 use Rattle.run.specs.Running.{adviceAt, moved, reported, reportedBy, reportedForm, reportedInside, reportedMove, runAt, standing, started, startedBy, unmoved}
 use Rattle.run.specs.Following.{Follows, grown, runAfter, trailAfter, trailWith}
-use Rattle.run.specs.declared.moves.Kind.{Kind}
-use Rattle.run.specs.declared.moves.Kind.the-variants.{Meant, Disturbance, Neither}
+use Rattle.moves.specs.declared.Kind.{Kind}
+use Rattle.moves.specs.declared.Kind.the-variants.{Meant, Disturbance, Neither}
 use Rattle.run.specs.declared.Run.{Run}
 use Rattle.run.specs.declared.Advice.{Advice}
 use Rattle.run.specs.declared.Answer.the-variants.{Position, Count}

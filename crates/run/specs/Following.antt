@@ -7,10 +7,10 @@ use Rattle.game.specs.Value.{fin, valueOf, _≼_, _≺_, _⊕_}
 use Rattle.game.specs.Play.{Trail, meant, disturbed, last, cost, Play, Unsafe, Legal, positional}
 use Rattle.chart.specs.Meaning.{arenaOf}
 use Rattle.plate.specs.Read.{valueIn, choiceIn}
-use Rattle.run.specs.Moves.{moveKind}
+use Rattle.moves.specs.Moves.{moveKind}
 use Rattle.run.specs.Running.{reported}
-use Rattle.run.specs.declared.moves.Kind.{Kind}
-use Rattle.run.specs.declared.moves.Kind.the-variants.{Meant, Disturbance, Neither}
+use Rattle.moves.specs.declared.Kind.{Kind}
+use Rattle.moves.specs.declared.Kind.the-variants.{Meant, Disturbance, Neither}
 use Rattle.run.specs.declared.Run.{Run}
 use Rattle.run.specs.declared.Answer.{Answer}
 use Rattle.run.specs.declared.Answer.the-variants.{Taken, Refused, Form, Position, Move, Count}

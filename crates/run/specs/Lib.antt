@@ -1,8 +1,6 @@
-pub mod Moves
 pub mod Running
 pub mod Answers
 pub mod Following
-pub mod MoveLaws
 pub mod RunningLaws
 pub mod AnswersExact
 pub mod Followed

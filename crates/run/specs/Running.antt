@@ -11,7 +11,7 @@ use Rattle.chart.specs.Examined.{examined}
 use Rattle.refusal.specs.Numbers.{refusalNumber, refusalLine}
 use Rattle.chart.specs.declared.Examination.{Examination}
 use Rattle.chart.specs.declared.Examination.the-variants.{Accepted as Taken, Refused as Turned}
-use Rattle.solver.specs.Held.{Decoded}
+use Rattle.round.specs.Held.{Decoded}
 use Rattle.plate.specs.Formed.{formOf}
 use Rattle.plate.specs.Read.{valueIn, choiceIn}
 use Rattle.plate.specs.declared.Form.{Form as PlateForm}
@@ -19,9 +19,9 @@ use Rattle.plate.specs.declared.Form.the-variants.{Good, Bad}
 use Rattle.audit.specs.Checking.{checked}
 use Rattle.audit.specs.declared.Checked.{Checked}
 use Rattle.audit.specs.declared.Checked.the-variants.{Accepted, Refused as Rejected, Form as BadForm, Fault as Faulty}
-use Rattle.run.specs.Moves.{moveKind}
-use Rattle.run.specs.declared.moves.Kind.{Kind}
-use Rattle.run.specs.declared.moves.Kind.the-variants.{Meant, Disturbance, Neither}
+use Rattle.moves.specs.Moves.{moveKind}
+use Rattle.moves.specs.declared.Kind.{Kind}
+use Rattle.moves.specs.declared.Kind.the-variants.{Meant, Disturbance, Neither}
 use Rattle.run.specs.declared.Run.{Run}
 use Rattle.run.specs.declared.Advice.{Advice}
 use Rattle.run.specs.declared.Started.{Started}

@@ -6,24 +6,23 @@ use borrow.Author.Tests.{lt-ltb, le-ltb}
 use Rattle.game.specs.Value.{numberOf}
 use Rattle.chart.specs.Meaning.{arenaOf}
 use Rattle.chart.specs.Examined.{examined}
-use Rattle.chart.specs.Accepted.{accepted-size}
+use Rattle.chart.specs.Accepted.{accepted-size, accepted-few}
 use Rattle.chart.specs.declared.Chart.{Chart}
 use Rattle.refusal.specs.declared.Refusal.{Refusal}
 use Rattle.chart.specs.declared.Examination.the-variants.{Accepted as Taken, Refused as Turned}
-use Rattle.solver.specs.Held.{Decoded}
+use Rattle.round.specs.Held.{Decoded}
 use Rattle.plate.specs.Exact.{form-exact}
 use Rattle.plate.specs.Form.{OfForm}
 use Rattle.plate.specs.Formed.{formOf}
 use Rattle.plate.specs.Read.{choiceIn}
-use Rattle.plate.specs.ReadingLaws.{accepted-few}
 use Rattle.plate.specs.declared.Form.the-variants.{Good, Bad}
 use Rattle.audit.specs.Checking.{checked}
 use Rattle.audit.specs.CheckingLaws.{refused-answer}
 use Rattle.audit.specs.AnswersExact.{answer-exactly}
 use Rattle.audit.specs.declared.Checked.the-variants.{Accepted}
-use Rattle.run.specs.Moves.{KindIs}
+use Rattle.moves.specs.Moves.{KindIs}
 use Rattle.run.specs.Running.{CheckedStart, FormedReport, RowsReport, adviceAt, reported, reportedBy, reportedForm, reportedInside, reportedMove, started, startedBy, unmoved}
-use Rattle.run.specs.declared.moves.Kind.{Kind}
+use Rattle.moves.specs.declared.Kind.{Kind}
 use Rattle.run.specs.declared.Run.{Run}
 use Rattle.run.specs.declared.Advice.{Advice}
 use Rattle.run.specs.declared.Started.the-variants.{Refused}

@@ -2,26 +2,21 @@
 ghost use mathlib.Core.Path.{_≡_};
 ghost use Prim.Native.Nat.{_≤_, _<_};
 ghost use lib.ListN.{length};
-ghost use Rattle.solver.specs.Solve.{Within};
+ghost use Rattle.round.specs.Round.{Within};
 ghost use Rattle.plate.specs.Formed.{formOf};
-ghost use Rattle.plate.specs.Read.{entryNumber};
 ghost use Rattle.run.specs.Running.{CheckedStart, FormedReport, RowsReport, adviceAt, moved, reported, runOf, standing, started, startedBy, unmoved};
-use crate::moves::Kind;
-use crate::moves::move_kind;
 use audit::Checked;
 use audit::check;
 use chart::Examination;
 use chart::examine;
 use decode::load;
-use plate::Entry;
+use moves::Kind;
+use moves::move_kind;
 use plate::Form;
 use plate::LINE;
 use plate::examine_plate;
-use plate::read_entry;
+use plate::number_at;
 use refusal::Refusal;
-use solver::solve::NONE;
-
-pub mod moves;
 
 // The position that the machine stands at, the disturbances seen, and the value at the start, 65,535 for "ever".
 #[repr(C)]
@@ -263,20 +258,7 @@ fn advice_at(n: usize, plate: &[u8], v: usize) -> Advice
     ensures { λ r. ⌜ r ≡ adviceAt (now (plate .entry)) v ⌝ }
 {
     let at = (v + 1) * LINE;
-    let choice = number(read_entry(plate, at + 11));
-    let value = number(read_entry(plate, at + 6));
+    let choice = number_at(plate, at + 11);
+    let value = number_at(plate, at + 6);
     Advice { choice, value }
-}
-
-// An entry as a number in a row. The bound keeps it within 16 bits.
-fn number(entry: Entry) -> u16
-    requires { ⌜ entryNumber entry ≤ 65535 ⌝ }
-    ensures { λ r. ⌜ r ≡ entryNumber entry ⌝ }
-{
-    match entry {
-        Entry::Number(x) => x as u16,
-        Entry::Dash => NONE,
-        Entry::Ever => NONE,
-        Entry::Bad => NONE,
-    }
 }

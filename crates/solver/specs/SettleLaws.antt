@@ -10,10 +10,11 @@ use Rattle.game.specs.Arena.{Arena, size}
 use Rattle.game.specs.Table.{Table, placed, place, ready, tableAfter}
 use Rattle.game.specs.TableLaws.{Takes}
 use Rattle.game.specs.Stable.{Settled, settled-stays, steps-stop-early}
-use Rattle.solver.specs.RowLaws.{Marked, Stays, numberAt}
-use Rattle.solver.specs.Solve.{Placing, decides, readyFlag}
-use Rattle.solver.specs.Held.{Holds, Flags, Decoded, Settling}
-use Rattle.solver.specs.HeldLaws.{place-holds, none-taken, ready-flag}
+use Rattle.round.specs.RowLaws.{Marked, Stays, numberAt}
+use Rattle.round.specs.Round.{Placing, decides, readyFlag}
+use Rattle.round.specs.Held.{Holds, Flags, Decoded}
+use Rattle.solver.specs.Solving.{Settling}
+use Rattle.round.specs.HeldLaws.{place-holds, none-taken, ready-flag}
 
 module _ {n m : ℕ} {owners costs froms tos : List ℕ} {k : ℕ} {values steps : List ℕ} where
   pub settling-none : Settling n m owners costs froms tos k 0 values steps values steps

@@ -13,12 +13,12 @@ use Rattle.game.specs.Table.{Table, Placement, unplaced, placed, placementAt, i
 use Rattle.game.specs.TableLaws.{Takes, place-none}
 use Rattle.game.specs.RoundTables.{before-length}
 use Rattle.game.specs.Stable.{values-end, values-stop-at-a-quiet-round}
-use Rattle.decode.specs.Rows.{RowIs}
-use Rattle.decode.specs.Loaded.{Filled}
-use Rattle.solver.specs.RowLaws.{Marked, Stays, numberAt}
-use Rattle.solver.specs.Solve.{bit, Placing, disturbs}
-use Rattle.solver.specs.Held.{Holds, Flags, Decoded, Settling, Solving, Solved}
-use Rattle.solver.specs.HeldLaws.{place-holds, none-taken, disturbed-flag}
+use Rattle.game.specs.Rows.{RowIs, Filled}
+use Rattle.round.specs.RowLaws.{Marked, Stays, numberAt}
+use Rattle.round.specs.Round.{bit, Placing, disturbs}
+use Rattle.round.specs.Held.{Holds, Flags, Decoded}
+use Rattle.solver.specs.Solving.{Settling, Solving, Solved}
+use Rattle.round.specs.HeldLaws.{place-holds, none-taken, disturbed-flag}
 
 -- cleared rows hold the empty table
 cleared : (n : ℕ) {values steps values′ steps′ : List ℕ} → Filled values values′ n (λ v. 65535) → Filled steps steps′ n (λ v. 65535)

@@ -14,20 +14,21 @@ use Rattle.game.specs.Table.{table, placementAt, valueIn, stepIn, Placement, pl
 use Rattle.game.specs.RoundBounds.{round-value-within-size, round-step-within-size, pair-within-size}
 use Rattle.game.specs.Best.{bestAt}
 use Rattle.game.specs.Summary.{someBelow, countBelow, firstOfPair, pairCount, higher, highest, everCount}
-use Rattle.decode.specs.Rows.{RowIs}
-use Rattle.decode.specs.Loaded.{Filled, Loaded}
+use Rattle.game.specs.Rows.{RowIs, Filled}
+use Rattle.decode.specs.Loaded.{Loaded}
 use Rattle.chart.specs.Meaning.{arenaOf}
 use Rattle.chart.specs.Examined.{examined}
 use Rattle.chart.specs.Accepted.{accepted-chartable, accepted-size, accepted-moves}
 use Rattle.chart.specs.declared.Chart.{Chart}
 use Rattle.chart.specs.declared.Examination.the-variants.{Accepted, Refused}
 use Rattle.refusal.specs.declared.Refusal.{Refusal}
-use Rattle.solver.specs.Solve.{Within}
-use Rattle.solver.specs.Held.{Holds, Decoded, Solved}
-use Rattle.solver.specs.HeldLaws.{decoded-within}
+use Rattle.round.specs.Round.{Within}
+use Rattle.round.specs.Held.{Holds, Decoded}
+use Rattle.solver.specs.Solving.{Solved}
+use Rattle.round.specs.HeldLaws.{decoded-within}
 use Rattle.choice.specs.Choose.{ValuesAre, Chosen}
 use Rattle.choice.specs.Summarize.{rowValue, PairsFit, SummaryOf}
-use Rattle.solver.specs.RowLaws.{some-same}
+use Rattle.round.specs.RowLaws.{some-same}
 use Rattle.value.specs.Valuing.{PlateRows, PlateSummary, Decodable, RowsValued, valued, valuedBy, ValuedIs}
 use Rattle.value.specs.declared.valuing.Valued.the-variants.{Rounds, Refused as Turned, Short}
 use Rattle.choice.specs.declared.summary.Summary.{Summary}

@@ -1,7 +1,7 @@
 // Valuing: a chart into rows of values, choices and steps.
 ghost use Prim.Native.Nat.{_<_, _≤_};
 ghost use lib.ListN.{length};
-ghost use Rattle.solver.specs.Solve.{Within};
+ghost use Rattle.round.specs.Round.{Within};
 ghost use Rattle.value.specs.Valuing.{Decodable, RowsValued, ValuedIs};
 use chart::Examination;
 use choice::choose::choose;

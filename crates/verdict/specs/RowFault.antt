@@ -15,8 +15,8 @@ use Rattle.game.specs.Arena.{Arena, Move, Owner, controller, environment, owner
 use Rattle.game.specs.Play.{disturbanceCost, targetOf}
 use Rattle.game.specs.Table.{someMove, everyMove, meantFrom, disturbanceFrom}
 use Rattle.game.specs.Fault.{earlier, unsafeZero, dashed, legalAs, holdsAs, ruinedAs, ruined, faultAt}
-use Rattle.decode.specs.Rows.{RowIs, ownerNumber}
-use Rattle.solver.specs.Held.{Decoded}
+use Rattle.game.specs.Rows.{RowIs, ownerNumber}
+use Rattle.round.specs.Held.{Decoded}
 use Rattle.choice.specs.SummarizeLaws.{ever-number, same-values}
 use Rattle.verdict.specs.Position.{afterMoves, beforeMoves}
 use Rattle.verdict.specs.Sheet.{Formed, Sheet, choiceAt, rowFault, seenBelow, someShows, stepAt, valueAt}

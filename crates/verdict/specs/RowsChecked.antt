@@ -2,8 +2,8 @@
 use Prim.Native.Nat.{ℕ}
 use mathlib.Core.Path.{_≡_}
 use Rattle.game.specs.Arena.{Arena, positionAt}
-use Rattle.decode.specs.Rows.{RowIs}
-use Rattle.solver.specs.Held.{Decoded}
+use Rattle.game.specs.Rows.{RowIs}
+use Rattle.round.specs.Held.{Decoded}
 use Rattle.choice.specs.declared.summary.Summary.{Summary}
 use Rattle.verdict.specs.Verdict.{verdictOf}
 use Rattle.verdict.specs.Sheet.{Sheet, choiceAt, stepAt, valueAt}

@@ -9,8 +9,8 @@ use lib.Dec.{eqb}
 use borrow.Author.Tests.{eq-eqb, ne-eqb}
 use Rattle.game.specs.Arena.{Arena, positionAt}
 use Rattle.game.specs.Fault.{faultAt}
-use Rattle.decode.specs.Rows.{RowIs}
-use Rattle.solver.specs.Held.{Decoded}
+use Rattle.game.specs.Rows.{RowIs}
+use Rattle.round.specs.Held.{Decoded}
 use Rattle.choice.specs.Summarize.{PairsFit}
 use Rattle.choice.specs.declared.summary.Summary.{Summary}
 use Rattle.verdict.specs.Position.{beforeMoves, isUnsafe}

@@ -8,7 +8,7 @@ use mathlib.Core.List.{List}
 use lib.ListN.{length, getD}
 use lib.Dec.{eqb}
 use Rattle.game.specs.Value.{Value}
-use Rattle.solver.specs.RowLaws.{found, numberAt}
+use Rattle.round.specs.RowLaws.{found, numberAt}
 use Rattle.choice.specs.Summarize.{rowValue}
 use Rattle.verdict.specs.Position.{afterMoves, beforeMoves, shown}
 use Rattle.verdict.specs.declared.position.Line.{Line}

@@ -13,10 +13,10 @@ use Rattle.game.specs.Arena.{Arena, Move, Owner, controller, environment, owner
 use Rattle.game.specs.Play.{disturbanceCost}
 use Rattle.game.specs.Table.{someMove}
 use Rattle.game.specs.Fault.{earlier}
-use Rattle.decode.specs.Rows.{ownerNumber}
-use Rattle.chart.specs.Accepted.{at-member}
-use Rattle.solver.specs.Held.{Decoded}
-use Rattle.solver.specs.HeldLaws.{lines-of, to-inside}
+use Rattle.game.specs.Rows.{ownerNumber}
+use Rattle.game.specs.Members.{at-member}
+use Rattle.round.specs.Held.{Decoded}
+use Rattle.round.specs.HeldLaws.{lines-of, to-inside}
 use Rattle.choice.specs.SummarizeLaws.{same-values}
 use Rattle.verdict.specs.Position.{isController, shown, shownMeant, shownDisturbance, earlierTarget}
 use Rattle.verdict.specs.Sheet.{Formed, Sheet, choiceAt, lineAt, someShows, stepAt, targetAt, valueAt}

@@ -11,7 +11,7 @@ use lib.ListN.{getD}
 use lib.Dec.{eqb}
 use borrow.Author.Tests.{eq-eqb, ne-eqb}
 use Rattle.game.specs.Summary.{someBelow}
-use Rattle.solver.specs.RowLaws.{found, numberAt, some-next}
+use Rattle.round.specs.RowLaws.{found, numberAt, some-next}
 use Rattle.verdict.specs.Position.{afterMoves, beforeMoves, isController, joined, nothing, shown}
 use Rattle.verdict.specs.Sheet.{Ascending, Sheet, lineAt, rowFault, seenBelow, targetAt}
 use Rattle.verdict.specs.declared.position.Line.{Line}

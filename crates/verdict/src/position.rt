@@ -1,7 +1,7 @@
 // Conditions 1 to 5 of Checking at one position: those that its own line settles, and those that its moves settle.
 ghost use mathlib.Core.Path.{_≡_};
 ghost use Rattle.verdict.specs.Position.{afterMoves, beforeMoves, earlierTarget, joined, lessOneNumber, nothing, shown};
-use solver::solve::NONE;
+use round::NONE;
 
 // A position: its owner and mark in the chart, and its line of the plate.
 pub struct Line {

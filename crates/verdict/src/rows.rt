@@ -2,7 +2,7 @@
 ghost use mathlib.Core.Path.{_≡_};
 ghost use Prim.Native.Nat.{_≤_, _<_};
 ghost use lib.ListN.{length, getD};
-ghost use Rattle.solver.specs.Solve.{Within};
+ghost use Rattle.round.specs.Round.{Within};
 ghost use Rattle.choice.specs.Summarize.{PairsFit, rowValue};
 ghost use Rattle.value.specs.Valuing.{Decodable};
 ghost use Rattle.verdict.specs.Sheet.{Ascending, Formed, Sized, lineOf, rowFault, sheet, targetOf};

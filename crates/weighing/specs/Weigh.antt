@@ -5,9 +5,9 @@ use mathlib.Core.Bool.{Bool, true, false, cond, not, _&&_, _||_}
 use mathlib.Core.List.{List, [], _∷_, _++_}
 use lib.ListN.{length, getD, set}
 use lib.Dec.{eqb}
-use Rattle.decode.specs.Rows.{RowIs}
-use Rattle.solver.specs.RowLaws.{setIf, found, numberAt}
-use Rattle.solver.specs.Solve.{bit}
+use Rattle.game.specs.Rows.{RowIs}
+use Rattle.round.specs.RowLaws.{setIf, found, numberAt}
+use Rattle.round.specs.Round.{bit}
 
 -- the i-th move is a meant move into the choice of the position that it leaves
 unfoldable pub isChosen : (costs froms tos choices : List ℕ) → ℕ → Bool

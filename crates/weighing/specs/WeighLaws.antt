@@ -10,10 +10,10 @@ use lib.ListN.{length, getD, set, length-append, List·getD-append}
 use lib.Seq.{getD-set-same, getD-set-other, getD-append-seam}
 use lib.Dec.{T, eqb}
 use borrow.Author.Tests.{eq-eqb, ne-eqb}
-use Rattle.decode.specs.Rows.{RowIs}
-use Rattle.solver.specs.RowLaws.{setIf}
-use Rattle.solver.specs.Solve.{bit}
-use Rattle.solver.specs.PlaceLaws.{bit-le}
+use Rattle.game.specs.Rows.{RowIs}
+use Rattle.round.specs.RowLaws.{setIf}
+use Rattle.round.specs.Round.{bit}
+use Rattle.round.specs.PlaceLaws.{bit-le}
 use Rattle.weighing.specs.Weigh.{passing, CopyOf, Copied, CopiedMove, moveStays}
 
 -- one number more

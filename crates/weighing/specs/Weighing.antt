@@ -14,14 +14,13 @@ use Rattle.game.specs.Restrict.{restricted}
 use Rattle.game.specs.Table.{roundValue}
 use Rattle.game.specs.Fault.{legalAs}
 use Rattle.game.specs.Summary.{someBelow}
-use Rattle.decode.specs.Rows.{RowIs}
+use Rattle.game.specs.Rows.{RowIs, Filled}
 use Rattle.chart.specs.Meaning.{arenaOf}
-use Rattle.decode.specs.Loaded.{Filled}
 use Rattle.chart.specs.Examined.{examined}
 use Rattle.chart.specs.declared.Examination.{Examination}
 use Rattle.chart.specs.declared.Examination.the-variants.{Accepted, Refused}
-use Rattle.solver.specs.RowLaws.{Stays}
-use Rattle.solver.specs.Held.{Decoded}
+use Rattle.round.specs.RowLaws.{Stays}
+use Rattle.round.specs.Held.{Decoded}
 use Rattle.choice.specs.Summarize.{rowValue}
 use Rattle.weighing.specs.declared.Weighed.{Weighed}
 use Rattle.weighing.specs.declared.Weighed.the-variants.{Done, Refused as Turned, Short, Choice}

@@ -23,17 +23,18 @@ use Rattle.game.specs.Table.{table, placementAt, valueIn, roundValue, someMove,
 use Rattle.game.specs.Fault.{legalAs}
 use Rattle.game.specs.ConditionTests.{legal-test}
 use Rattle.game.specs.Summary.{someBelow}
-use Rattle.decode.specs.Rows.{RowIs, ownerNumber}
+use Rattle.game.specs.Rows.{RowIs, ownerNumber}
 use Rattle.chart.specs.Meaning.{arenaOf}
 use Rattle.chart.specs.Examined.{examined}
 use Rattle.chart.specs.Accepted.{accepted-size}
 use Rattle.chart.specs.declared.Chart.{Chart}
 use Rattle.refusal.specs.declared.Refusal.{Refusal}
 use Rattle.chart.specs.declared.Examination.the-variants.{Accepted, Refused}
-use Rattle.solver.specs.RowLaws.{Stays, Marked, found, numberAt, some-hit, some-same}
-use Rattle.solver.specs.Solve.{bit, Within}
-use Rattle.solver.specs.Held.{Holds, Decoded, Solved}
-use Rattle.solver.specs.HeldLaws.{bit-one, from-inside, to-inside, lines-of}
+use Rattle.round.specs.RowLaws.{Stays, Marked, found, numberAt, some-hit, some-same}
+use Rattle.round.specs.Round.{bit, Within}
+use Rattle.round.specs.Held.{Holds, Decoded}
+use Rattle.solver.specs.Solving.{Solved}
+use Rattle.round.specs.HeldLaws.{bit-one, from-inside, to-inside, lines-of}
 use Rattle.choice.specs.Summarize.{rowValue}
 use Rattle.choice.specs.SummarizeLaws.{same-values, ever-number}
 use Rattle.value.specs.ValuingLaws.{round-value-fits}

@@ -4,15 +4,15 @@ ghost use mathlib.Core.Bool.{not};
 ghost use Prim.Native.Nat.{_<_, _≤_};
 ghost use lib.ListN.{length, getD};
 ghost use Rattle.game.specs.Summary.{someBelow};
-ghost use Rattle.solver.specs.RowLaws.{Marked, numberAt, setIf};
-ghost use Rattle.solver.specs.Solve.{AtMove, Within, bit};
+ghost use Rattle.round.specs.RowLaws.{Marked, numberAt, setIf};
+ghost use Rattle.round.specs.Round.{AtMove, Within, bit};
 ghost use Rattle.weighing.specs.Weighing.{RestrictedSolved, RowsWeighed, WeighedIs};
 ghost use Rattle.weighing.specs.Weigh.{Copied, CopiedMove, isChosen, isLegal, moveStays};
 use chart::Examination;
 use decode::load;
 use refusal::Refusal;
-use solver::solve::NONE;
-use solver::solve::flag_none;
+use round::NONE;
+use round::flag_none;
 use solver::solve::solve;
 
 // What Weighing answers: that the worths are there, the chart's refusal, 10: a row shorter than the count of positions, or

@@ -20,7 +20,7 @@ use Rattle.game.specs.Summary.{highest}
 use Rattle.game.specs.SummaryLaws.{pairs-within-size, evers-within-size}
 use Rattle.chart.specs.Meaning.{arenaOf}
 use Rattle.chart.specs.Examined.{examined}
-use Rattle.decode.specs.Filled.{filled-same}
+use Rattle.game.specs.Filling.{filled-same}
 use Rattle.chart.specs.Accepted.{accepted-size, accepted-chartable}
 use Rattle.chart.specs.declared.Chart.{Chart}
 use Rattle.chart.specs.declared.Examination.the-variants.{Accepted}
@@ -32,11 +32,11 @@ use Rattle.plate.specs.Exact.{form-exact}
 use Rattle.plate.specs.Range.{Below, InRange}
 use Rattle.plate.specs.RangeLaws.{below-fits}
 use Rattle.plate.specs.RoundTrip.{ReadsAs, set-out-is-of-form, reading-undoes-writing}
-use Rattle.plate.specs.Reading.{answerTo, readBy, reading, ReadingIs}
-use Rattle.plate.specs.ReadingTrip.{reading-took}
+use Rattle.reading.specs.Reading.{answerTo, readBy, reading, ReadingIs}
+use Rattle.reading.specs.ReadingTrip.{reading-took}
 use Rattle.plate.specs.declared.Form.the-variants.{Good}
-use Rattle.plate.specs.declared.reading.Reading.{Reading}
-use Rattle.plate.specs.declared.reading.Reading.the-variants.{Rows}
+use Rattle.reading.specs.declared.Reading.{Reading}
+use Rattle.reading.specs.declared.Reading.the-variants.{Rows}
 use Rattle.writing.specs.Writing.{summaryOf, plateOf}
 
 -- The plate of an arena is in range

@@ -11,12 +11,12 @@ use Rattle.game.specs.Arena.{Arena, size, positionAt}
 use Rattle.game.specs.Table.{roundValue, roundStep}
 use Rattle.game.specs.Best.{bestAt}
 use Rattle.game.specs.Summary.{pairCount, highest, everCount}
-use Rattle.decode.specs.Rows.{RowIs}
+use Rattle.game.specs.Rows.{RowIs}
 use Rattle.chart.specs.Meaning.{arenaOf}
 use Rattle.chart.specs.Examined.{examined}
 use Rattle.chart.specs.declared.Examination.{Examination}
 use Rattle.chart.specs.declared.Examination.the-variants.{Accepted, Refused}
-use Rattle.solver.specs.Held.{Decoded}
+use Rattle.round.specs.Held.{Decoded}
 use Rattle.choice.specs.declared.summary.Summary.{Summary}
 use Rattle.plate.specs.Text.{plateText}
 use Rattle.writing.specs.declared.Written.{Written}

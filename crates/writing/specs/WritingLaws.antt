@@ -9,14 +9,14 @@ use lib.Dec.{leb}
 use Rattle.game.specs.Arena.{Arena, size, positionAt}
 use Rattle.game.specs.Table.{roundValue, roundStep}
 use Rattle.game.specs.Best.{bestAt}
-use Rattle.decode.specs.Rows.{RowIs}
+use Rattle.game.specs.Rows.{RowIs}
 use Rattle.chart.specs.Meaning.{arenaOf}
 use Rattle.chart.specs.Examined.{examined}
 use Rattle.chart.specs.Accepted.{accepted-size}
 use Rattle.chart.specs.declared.Chart.{Chart}
 use Rattle.refusal.specs.declared.Refusal.{Refusal}
 use Rattle.chart.specs.declared.Examination.the-variants.{Accepted, Refused}
-use Rattle.solver.specs.Held.{Decoded}
+use Rattle.round.specs.Held.{Decoded}
 use Rattle.choice.specs.Summarize.{rowValue}
 use Rattle.value.specs.Valuing.{PlateRows, PlateSummary, RowsValued}
 use Rattle.value.specs.ValuingLaws.{round-value-fits, round-step-fits}

@@ -4,7 +4,7 @@ ghost use mathlib.Core.Path.{_≡_};
 ghost use mathlib.Core.List.{_++_};
 ghost use lib.ListN.{length, drop};
 ghost use Rattle.chart.specs.Meaning.{lineText};
-ghost use Rattle.solver.specs.Solve.{Within};
+ghost use Rattle.round.specs.Round.{Within};
 ghost use Rattle.value.specs.Valuing.{Decodable};
 ghost use Rattle.writing.specs.Response.{Responded};
 ghost use Rattle.writing.specs.Writing.{PlateWritten, WrittenIs};
@@ -12,7 +12,7 @@ use chart::Examination;
 use decode::load;
 use field::write;
 use plate::LINE;
-use plate::write_rows;
+use plate_lines::write_rows;
 use refusal::Refusal;
 use value::valuing::value_rows;
 

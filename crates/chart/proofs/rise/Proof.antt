@@ -19,7 +19,7 @@ above-requires : tie.Need-above-requires
 above-requires c κs = search needs
 
 returns : tie.Need-returns
-returns c = cc
+returns c = simp (c .above .ensures, c .before .number2 .ensures, c .before .before .cost .ensures, c .before .before .before .number .ensures)
 
 pub rise-spec : {M : Type 1} → statement M
 rise-spec =

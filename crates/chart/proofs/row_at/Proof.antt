@@ -32,7 +32,7 @@ shared-slice-read-t10 c = search needs
 
 returns : tie.Need-returns
 unfolding rowAt letterAt firstAt secondAt endAt
-returns c = cc
+returns c = simp (c .before .before .before .read .ensures, c .before .before .read2 .ensures)
 
 pub row-at-spec : {M : Type 1} → statement M
 row-at-spec =

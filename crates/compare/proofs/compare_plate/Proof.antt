@@ -10,7 +10,7 @@ use Rattle.compare.proofs.compare_plate.Tie as tie
 use Rattle.compare.proofs.compare_plate.Reads as reads
 use Rattle.compare.proofs.compare_plate.Lts as lts
 use Rattle.compare.proofs.compare_values.Reads as compare-values-reads
-use Rattle.plate.proofs.reading.read_plate.Reads as read-plate-reads
+use Rattle.reading.proofs.read_plate.Reads as read-plate-reads
 
 slice-aggregate-read-plate : tie.Need-slice-aggregate-read-plate
 slice-aggregate-read-plate c = search needs

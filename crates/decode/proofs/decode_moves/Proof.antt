@@ -1,18 +1,18 @@
 -- `decode::decode_moves` meets its contract. The invariant: the rows so far are those of the first i moves. That the text has the
--- lines, and that their numbers fit 16 bits, is what accepting it says.
+-- lines, that their bytes spell their numbers and that these fit 16 bits is what accepting it says.
 use Prim.Native.Nat.{ℕ, _+_, _-_, _≤_}
 use native.Mathlib.Omega.{arith}
-use mathlib.Core.Path.{_≡_, subst}
+use mathlib.Core.Path.{_≡_, _∙_, subst}
 use lib.ListN.{length}
 use denote.Ref.{now}
 use Rattle.chart.specs.Text.{letterAt}
 use Rattle.decode.specs.Loaded.{MoveRows}
-use Rattle.decode.specs.Filled.{filled-none, filled-more, MovesFit, moves-fit}
+use Rattle.game.specs.Filling.{filled-none, filled-more}
+use Rattle.decode.specs.LoadedLaws.{MovesFit, moves-fit}
 use Rattle.decode.proofs.decode_moves.Statement.{statement}
 use Rattle.decode.proofs.decode_moves.Tie as tie
 use Rattle.chart.proofs.cost.Reads as cost-reads
-use Rattle.chart.proofs.from_at.Reads as from-at-reads
-use Rattle.chart.proofs.to_at.Reads as to-at-reads
+use Rattle.field.proofs.decimal.Reads as decimal-reads
 
 abbrev Inv-loop : tie.InvT-loop
 Inv-loop text costs₀ froms₀ tos₀ first m i₀ costs froms tos i = (i ≤ m) × (m ≤ length costs₀) × (m ≤ length froms₀) × (m ≤ length tos₀) × MovesFit text first m × MoveRows text first i costs₀ costs froms₀ froms tos₀ tos
@@ -36,11 +36,11 @@ loop-holds c =
       record { cost = filled-none _ _; from = filled-none _ _; to = filled-none _ _ },
     )
 
-add-line : tie.Need-add-line Inv-loop μ-loop
-add-line c = omega arith
+add-at : tie.Need-add-at Inv-loop μ-loop
+add-at c = omega arith
 
-mul-cost : tie.Need-mul-cost Inv-loop μ-loop
-mul-cost c = omega arith
+mul-at : tie.Need-mul-at Inv-loop μ-loop
+mul-at c = omega arith
 
 shared-slice-read-cost : tie.Need-shared-slice-read-cost Inv-loop μ-loop
 shared-slice-read-cost c = omega arith
@@ -51,13 +51,17 @@ cost-requires c κs = tt
 slice-write-costs : tie.Need-slice-write-costs Inv-loop μ-loop
 slice-write-costs c = omega arith
 
-from-at-requires : tie.Need-from-at-requires Inv-loop μ-loop
-from-at-requires c κs = omega arith
+add-decimal : tie.Need-add-decimal Inv-loop μ-loop
+add-decimal c = omega arith
+
+decimal-requires : tie.Need-decimal-requires Inv-loop μ-loop
+decimal-requires c κs = omega arith
 
 cast-froms : tie.Need-cast-froms Inv-loop μ-loop
 cast-froms c =
     let head = c .before .before .before .before in
-    omega (arith, c .from-at .ensures, head .loop .inv .4 .from-small (head .loop .i) (omega arith))
+    let fit = head .loop .inv .4 in
+    omega (arith, c .decimal .ensures, fit .from-spelt (head .loop .i) (omega arith), fit .from-small (head .loop .i) (omega arith))
 
 mul-froms : tie.Need-mul-froms Inv-loop μ-loop
 mul-froms c = omega arith
@@ -65,13 +69,17 @@ mul-froms c = omega arith
 slice-write-froms : tie.Need-slice-write-froms Inv-loop μ-loop
 slice-write-froms c = omega arith
 
-to-at-requires : tie.Need-to-at-requires Inv-loop μ-loop
-to-at-requires c κs = omega arith
+add-decimal-2 : tie.Need-add-decimal-2 Inv-loop μ-loop
+add-decimal-2 c = omega arith
+
+decimal-requires-2 : tie.Need-decimal-requires-2 Inv-loop μ-loop
+decimal-requires-2 c κs = omega arith
 
 cast-tos : tie.Need-cast-tos Inv-loop μ-loop
 cast-tos c =
     let head = c .before .before .before .before .before in
-    omega (arith, c .to-at .ensures, head .loop .inv .4 .to-small (head .loop .i) (omega arith))
+    let fit = head .loop .inv .4 in
+    omega (arith, c .decimal2 .ensures, fit .to-spelt (head .loop .i) (omega arith), fit .to-small (head .loop .i) (omega arith))
 
 mul-tos : tie.Need-mul-tos Inv-loop μ-loop
 mul-tos c = omega arith
@@ -97,8 +105,8 @@ loop-again c =
       inv .4,
       record {
         cost = filled-more _ _ (head .loop .i) _ _ (inv .5 .cost) (omega arith) (c .before .before .cost .ensures);
-        from = filled-more _ _ (head .loop .i) _ _ (inv .5 .from) (omega arith) (c .before .from-at .ensures);
-        to = filled-more _ _ (head .loop .i) _ _ (inv .5 .to) (omega arith) (c .to-at .ensures);
+        from = filled-more _ _ (head .loop .i) _ _ (inv .5 .from) (omega arith) (c .before .decimal .ensures ∙ inv .4 .from-spelt (head .loop .i) (omega arith));
+        to = filled-more _ _ (head .loop .i) _ _ (inv .5 .to) (omega arith) (c .decimal2 .ensures ∙ inv .4 .to-spelt (head .loop .i) (omega arith));
       },
     )
 
@@ -128,16 +136,18 @@ decode-moves-spec =
     μ-loop
     add-first
     loop-holds
-    add-line
-    mul-cost
+    add-at
+    mul-at
     shared-slice-read-cost
     cost-requires
     slice-write-costs
-    from-at-requires
+    add-decimal
+    decimal-requires
     cast-froms
     mul-froms
     slice-write-froms
-    to-at-requires
+    add-decimal-2
+    decimal-requires-2
     cast-tos
     mul-tos
     slice-write-tos

@@ -1,17 +1,17 @@
 -- `decode::decode_positions` meets its contract. The invariant: the rows so far are those of the first v positions. That the text
--- has the lines, and that its marks fit a byte, is what accepting it says.
+-- has the lines, that its bytes spell its marks and that these fit a byte is what accepting it says.
 use Prim.Native.Nat.{ℕ, _-_, _≤_}
 use native.Mathlib.Omega.{arith}
-use mathlib.Core.Path.{_≡_, ap, _∙_, subst}
+use mathlib.Core.Path.{_≡_, _∙_, subst}
 use lib.ListN.{length}
 use denote.Ref.{now}
-use Rattle.chart.specs.Text.{letterAt, numberOf}
+use Rattle.chart.specs.Text.{letterAt}
 use Rattle.decode.specs.Loaded.{PositionRows}
-use Rattle.decode.specs.Filled.{filled-none, filled-more, PositionsFit, positions-fit}
+use Rattle.game.specs.Filling.{filled-none, filled-more}
+use Rattle.decode.specs.LoadedLaws.{PositionsFit, positions-fit}
 use Rattle.decode.proofs.decode_positions.Statement.{statement}
 use Rattle.decode.proofs.decode_positions.Tie as tie
-use Rattle.chart.proofs.mark_at.Reads as mark-at-reads
-use Rattle.chart.proofs.number.Reads as number-reads
+use Rattle.field.proofs.decimal.Reads as decimal-reads
 use Rattle.decode.proofs.owner.Reads as owner-reads
 
 abbrev Inv-loop : tie.InvT-loop
@@ -25,11 +25,11 @@ loop-holds c =
     let start = c .before .before .before in
     (omega arith, omega arith, omega arith, positions-fit (now (start .args .text)) (start .args .chart) (start .pre .0), record { owner = filled-none _ _; mark = filled-none _ _ })
 
-add-owner : tie.Need-add-owner Inv-loop μ-loop
-add-owner c = omega arith
+add-at : tie.Need-add-at Inv-loop μ-loop
+add-at c = omega arith
 
-mul-owner : tie.Need-mul-owner Inv-loop μ-loop
-mul-owner c = omega arith
+mul-at : tie.Need-mul-at Inv-loop μ-loop
+mul-at c = omega arith
 
 shared-slice-read-owner : tie.Need-shared-slice-read-owner Inv-loop μ-loop
 shared-slice-read-owner c = omega arith
@@ -40,19 +40,17 @@ owner-requires c κs = tt
 slice-write-owners : tie.Need-slice-write-owners Inv-loop μ-loop
 slice-write-owners c = omega arith
 
-add-mark-at : tie.Need-add-mark-at Inv-loop μ-loop
-add-mark-at c = omega arith
+add-decimal : tie.Need-add-decimal Inv-loop μ-loop
+add-decimal c = omega arith
 
-mark-at-requires : tie.Need-mark-at-requires Inv-loop μ-loop
-mark-at-requires c κs = omega arith
-
-number-requires : tie.Need-number-requires Inv-loop μ-loop
-number-requires c κs = tt
+decimal-requires : tie.Need-decimal-requires Inv-loop μ-loop
+decimal-requires c κs = omega arith
 
 cast-marks : tie.Need-cast-marks Inv-loop μ-loop
 cast-marks c =
-    let head = c .before .before .before .before .before in
-    omega (arith, c .number .ensures ∙ ap numberOf (c .before .mark-at .ensures), head .loop .inv .3 .small (head .loop .v) (omega arith))
+    let head = c .before .before .before .before in
+    let fit = head .loop .inv .3 in
+    omega (arith, c .decimal .ensures, fit .mark-spelt (head .loop .v) (omega arith), fit .small (head .loop .v) (omega arith))
 
 slice-write-marks : tie.Need-slice-write-marks Inv-loop μ-loop
 slice-write-marks c = omega arith
@@ -66,15 +64,15 @@ loop-less c = omega arith
 loop-again : tie.Need-loop-again Inv-loop μ-loop
 unfolding letterAt
 loop-again c =
-    let head = c .before .before .before .before .before in
+    let head = c .before .before .before .before in
     let inv = head .loop .inv in (
       omega arith,
       inv .1,
       inv .2,
       inv .3,
       record {
-        owner = filled-more _ _ (head .loop .v) _ _ (inv .4 .owner) (omega arith) (c .before .before .owner .ensures);
-        mark = filled-more _ _ (head .loop .v) _ _ (inv .4 .mark) (omega arith) (c .number .ensures ∙ ap numberOf (c .before .mark-at .ensures));
+        owner = filled-more _ _ (head .loop .v) _ _ (inv .4 .owner) (omega arith) (c .before .owner .ensures);
+        mark = filled-more _ _ (head .loop .v) _ _ (inv .4 .mark) (omega arith) (c .decimal .ensures ∙ inv .3 .mark-spelt (head .loop .v) (omega arith));
       },
     )
 
@@ -98,14 +96,13 @@ decode-positions-spec =
     Inv-loop
     μ-loop
     loop-holds
-    add-owner
-    mul-owner
+    add-at
+    mul-at
     shared-slice-read-owner
     owner-requires
     slice-write-owners
-    add-mark-at
-    mark-at-requires
-    number-requires
+    add-decimal
+    decimal-requires
     cast-marks
     slice-write-marks
     add-v

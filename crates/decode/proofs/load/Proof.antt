@@ -4,7 +4,7 @@ use native.Mathlib.Omega.{arith}
 use Prim.Native.Nat.{ℕ}
 use mathlib.Core.Path.{_≡_, refl, sym, _∙_}
 use denote.Ref.{now}
-use Rattle.decode.specs.Filled.{positions-fit, moves-fit, accepted-rows-load}
+use Rattle.decode.specs.LoadedLaws.{positions-fit, moves-fit, accepted-rows-load}
 use borrow.Author.Needs.{needs}
 use Rattle.decode.proofs.load.Statement.{statement}
 use Rattle.decode.proofs.load.Tie as tie

@@ -58,7 +58,7 @@ same-length c = search needs
 
 returns : tie.Need-returns
 unfolding withNumber numberText
-returns c = simp towards-suc (cc)
+returns c = simp (towards-suc, c .place4 .ensures, c .before .place3 .ensures, c .before .before .place2 .ensures, c .before .before .before .place .ensures)
 
 pub write-spec : {M : Type 1} → statement M
 write-spec =

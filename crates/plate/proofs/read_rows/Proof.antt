@@ -4,7 +4,7 @@ use mathlib.Core.Path.{_≡_, subst}
 use Rattle.plate.specs.ReadLaws.{LineFits, header-fits, position-fits}
 use Rattle.plate.specs.Read.{valueIn, choiceIn, stepIn, headerIn, ColumnsRead}
 use Rattle.plate.specs.Form.{secondAt, thirdAt, fourthAt}
-use Rattle.decode.specs.Filled.{filled-none, filled-more}
+use Rattle.game.specs.Filling.{filled-none, filled-more}
 use denote.Ref.{now}
 use Prim.Native.Nat.{ℕ, _+_, _-_, _≤_}
 use native.Mathlib.Omega.{arith}

@@ -12,7 +12,7 @@ use Rattle.run.proofs.report_formed.Lts as lts
 use Rattle.run.proofs.Run.moved.Reads as moved-reads
 use Rattle.run.proofs.Run.unmoved.Reads as unmoved-reads
 use Rattle.run.proofs.advice_at.Reads as advice-at-reads
-use Rattle.run.proofs.moves.move_kind.Reads as move-kind-reads
+use Rattle.moves.proofs.move_kind.Reads as move-kind-reads
 use Rattle.run.proofs.stand.Reads as stand-reads
 
 unmoved-requires : tie.Need-unmoved-requires

@@ -7,7 +7,7 @@ use mathlib.Core.Path.{_≡_, refl, sym, ap, _∙_}
 use lib.ListN.{length, getD, set, length-set}
 use mathlib.Core.Bool.{not, false}
 use Rattle.game.specs.Summary.{someBelow}
-use Rattle.solver.specs.RowLaws.{some-next, some-hit}
+use Rattle.round.specs.RowLaws.{some-next, some-hit}
 use Rattle.weighing.specs.Weigh.{isLegal}
 use Rattle.weighing.proofs.all_legal.Statement.{statement}
 use Rattle.weighing.proofs.all_legal.Tie as tie

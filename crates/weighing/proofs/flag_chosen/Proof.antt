@@ -5,14 +5,14 @@ use native.Mathlib.Omega.{arith}
 use borrow.Author.Needs.{needs}
 use mathlib.Core.Path.{_≡_, refl, sym, ap, _∙_}
 use lib.ListN.{length, getD, set, length-set}
-use Rattle.solver.specs.RowLaws.{Marked, numberAt, marked-none, marked-next}
-use Rattle.solver.specs.Solve.{bit}
+use Rattle.round.specs.RowLaws.{Marked, numberAt, marked-none, marked-next}
+use Rattle.round.specs.Round.{bit}
 use Rattle.weighing.specs.Weigh.{isChosen}
 use Rattle.weighing.proofs.flag_chosen.Statement.{statement}
 use Rattle.weighing.proofs.flag_chosen.Tie as tie
 use Rattle.weighing.proofs.flag_chosen.Reads as reads
 use Rattle.weighing.proofs.flag_chosen.Lts as lts
-use Rattle.solver.proofs.solve.flag_none.Reads as flag-none-reads
+use Rattle.round.proofs.flag_none.Reads as flag-none-reads
 use Rattle.weighing.proofs.flag_chosen_by.Reads as flag-chosen-by-reads
 
 abbrev Inv-loop : tie.InvT-loop

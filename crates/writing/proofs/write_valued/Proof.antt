@@ -9,7 +9,7 @@ use Rattle.writing.proofs.write_valued.Statement.{statement}
 use Rattle.writing.proofs.write_valued.Tie as tie
 use Rattle.writing.proofs.write_valued.Reads as reads
 use Rattle.writing.proofs.write_valued.Lts as lts
-use Rattle.plate.proofs.write_rows.Reads as write-rows-reads
+use Rattle.plate_lines.proofs.write_rows.Reads as write-rows-reads
 use Rattle.value.proofs.valuing.value_rows.Reads as value-rows-reads
 
 slice-aggregate-value-rows : tie.Need-slice-aggregate-value-rows

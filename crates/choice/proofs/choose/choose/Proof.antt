@@ -5,14 +5,14 @@ use native.Mathlib.Omega.{arith}
 use borrow.Author.Needs.{needs}
 use mathlib.Core.Path.{_≡_, refl, sym, _∙_}
 use lib.ListN.{length, getD, set, length-set}
-use Rattle.solver.specs.Solve.{at-move}
+use Rattle.round.specs.Round.{at-move}
 use Rattle.choice.specs.ChooseLaws.{Choosing, choosing-none, choosing-next, choosing-fits, choosing-all, choosing-done}
 use Rattle.choice.proofs.choose.choose.Statement.{statement}
 use Rattle.choice.proofs.choose.choose.Tie as tie
 use Rattle.choice.proofs.choose.choose.Reads as reads
 use Rattle.choice.proofs.choose.choose.Lts as lts
 use Rattle.choice.proofs.choose.choose_by.Reads as choose-by-reads
-use Rattle.solver.proofs.solve.clear.Reads as clear-reads
+use Rattle.round.proofs.clear.Reads as clear-reads
 
 abbrev Inv-loop : tie.InvT-loop
 Inv-loop n m owners costs froms tos values choices₀ i₀ choices i =

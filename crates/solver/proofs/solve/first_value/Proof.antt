@@ -9,8 +9,8 @@ use Rattle.solver.proofs.solve.first_value.Statement.{statement}
 use Rattle.solver.proofs.solve.first_value.Tie as tie
 use Rattle.solver.proofs.solve.first_value.Reads as reads
 use Rattle.solver.proofs.solve.first_value.Lts as lts
-use Rattle.solver.proofs.solve.clear.Reads as clear-reads
-use Rattle.solver.proofs.solve.place.Reads as place-reads
+use Rattle.round.proofs.clear.Reads as clear-reads
+use Rattle.round.proofs.place.Reads as place-reads
 use Rattle.solver.proofs.solve.settle.Reads as settle-reads
 
 clear-requires : tie.Need-clear-requires

@@ -11,8 +11,8 @@ use Rattle.solver.proofs.solve.next_value.Statement.{statement}
 use Rattle.solver.proofs.solve.next_value.Tie as tie
 use Rattle.solver.proofs.solve.next_value.Reads as reads
 use Rattle.solver.proofs.solve.next_value.Lts as lts
-use Rattle.solver.proofs.solve.flag_disturbed.Reads as flag-disturbed-reads
-use Rattle.solver.proofs.solve.place.Reads as place-reads
+use Rattle.round.proofs.flag_disturbed.Reads as flag-disturbed-reads
+use Rattle.round.proofs.place.Reads as place-reads
 use Rattle.solver.proofs.solve.settle.Reads as settle-reads
 
 flag-disturbed-requires : tie.Need-flag-disturbed-requires

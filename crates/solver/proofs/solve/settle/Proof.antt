@@ -6,14 +6,14 @@ use native.Mathlib.Omega.{arith}
 use borrow.Author.Needs.{needs}
 use mathlib.Core.Path.{_≡_, refl}
 use lib.ListN.{length, getD, set, length-set}
-use Rattle.solver.specs.Held.{Settling}
+use Rattle.solver.specs.Solving.{Settling}
 use Rattle.solver.specs.SettleLaws.{settling-none, settling-next, settling-stops, settling-done}
 use Rattle.solver.proofs.solve.settle.Statement.{statement}
 use Rattle.solver.proofs.solve.settle.Tie as tie
 use Rattle.solver.proofs.solve.settle.Reads as reads
 use Rattle.solver.proofs.solve.settle.Lts as lts
-use Rattle.solver.proofs.solve.flag_ready.Reads as flag-ready-reads
-use Rattle.solver.proofs.solve.place.Reads as place-reads
+use Rattle.round.proofs.flag_ready.Reads as flag-ready-reads
+use Rattle.round.proofs.place.Reads as place-reads
 
 abbrev Inv-loop : tie.InvT-loop
 Inv-loop n m owners costs froms tos k flags₀ values₀ steps₀ s₀ flags values steps s =

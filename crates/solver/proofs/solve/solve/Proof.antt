@@ -5,7 +5,7 @@ use native.Mathlib.Omega.{arith}
 use borrow.Author.Needs.{needs}
 use mathlib.Core.Path.{_≡_, refl, sym}
 use lib.ListN.{length, getD, set, length-set}
-use Rattle.solver.specs.Held.{Solving}
+use Rattle.solver.specs.Solving.{Solving}
 use Rattle.solver.specs.SolveLaws.{begin-again, solved-after, solving-done}
 use Rattle.solver.proofs.solve.solve.Statement.{statement}
 use Rattle.solver.proofs.solve.solve.Tie as tie

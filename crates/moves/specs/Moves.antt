@@ -1,0 +1,50 @@
+-- What a move from one position to another is (document 01, "The run").
+use Prim.Native.Nat.{ℕ}
+use mathlib.Core.Path.{_≡_}
+use mathlib.Core.Bool.{Bool, cond, _&&_}
+use mathlib.Core.List.{List}
+use lib.ListN.{getD}
+use lib.Dec.{eqb}
+use Rattle.game.specs.Value.{Value, fin, eqV, numberOf}
+use Rattle.game.specs.Arena.{Arena, Owner, controller, environment, ownerAt, Meant as MeantTarget, Disturbance as DisturbedTo}
+use Rattle.game.specs.Table.{someMove, meantFrom, disturbanceFrom}
+use Rattle.round.specs.Held.{Decoded}
+use Rattle.moves.specs.declared.Kind.{Kind}
+use Rattle.moves.specs.declared.Kind.the-variants.{Meant, Disturbance, Neither}
+
+-- w is a meant target of v; a D line leads from v to w
+unfoldable pub isMeant : Arena → ℕ → ℕ → Bool
+isMeant a v w = someMove (λ m. meantFrom v m && eqb (m .to) w) (a .moves)
+
+unfoldable pub isDisturbance : Arena → ℕ → ℕ → Bool
+isDisturbance a v w = someMove (λ m. disturbanceFrom v m && eqb (m .to) w) (a .moves)
+
+-- "At O it counts as meant if it is the plate's choice and a meant target, else as a disturbance if a D line has it. At L it
+-- must be a meant target."
+unfoldable pub kindAs : Owner → Arena → Value → ℕ → ℕ → Kind
+kindAs controller a choice v w = cond (eqV choice (fin w) && isMeant a v w) Meant (cond (isDisturbance a v w) Disturbance Neither)
+kindAs environment a choice v w = cond (isMeant a v w) Meant Neither
+
+-- what a move from v to w is, with this choice at v
+unfoldable pub moveKind : Arena → Value → ℕ → ℕ → Kind
+moveKind a choice v w = kindAs (ownerAt a v) a choice v w
+
+-- the same as a statement: what each kind says at O and at L
+abbrev pub KindSays : Owner → Arena → Value → ℕ → ℕ → Kind → Type 0
+KindSays controller a choice v w Meant = (choice ≡ fin w) × MeantTarget a v w
+KindSays controller a choice v w Disturbance = ((choice ≡ fin w) × MeantTarget a v w → ⊥) × DisturbedTo a v w
+KindSays controller a choice v w Neither = ((choice ≡ fin w) × MeantTarget a v w → ⊥) × (DisturbedTo a v w → ⊥)
+KindSays environment a choice v w Meant = MeantTarget a v w
+KindSays environment a choice v w Disturbance = ⊥
+KindSays environment a choice v w Neither = MeantTarget a v w → ⊥
+
+-- In rows: the i-th move has this cost and leads to w, and it leaves v
+unfoldable pub leadsTo : (cost w : ℕ) (costs tos : List ℕ) → ℕ → Bool
+leadsTo cost w costs tos i = eqb (getD costs i 0) cost && eqb (getD tos i 0) w
+
+unfoldable pub leadsFrom : (cost v w : ℕ) (costs froms tos : List ℕ) → ℕ → Bool
+leadsFrom cost v w costs froms tos i = eqb (getD froms i 0) v && leadsTo cost w costs tos i
+
+-- the answer to a chart's rows and a choice as a number, for every arena that the rows hold
+pub record KindIs (n m : ℕ) (owners costs froms tos : List ℕ) (number v w : ℕ) (r : Kind) : Type 0 where
+  pub answer : (a : Arena) → Decoded a n m owners costs froms tos → (choice : Value) → number ≡ numberOf choice → r ≡ moveKind a choice v w

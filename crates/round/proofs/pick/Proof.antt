@@ -1,0 +1,15 @@
+-- `pick` meets its contract: each answer by the test that led to it.
+use Rattle.field.proofs.Cases.{cases}
+use Rattle.round.proofs.pick.Statement.{statement}
+use Rattle.round.proofs.pick.Tie as tie
+use Rattle.round.proofs.pick.Reads as reads
+use Rattle.round.proofs.pick.Lts as lts
+
+returns : tie.Need-returns
+returns c = search cases
+
+returns-2 : tie.Need-returns-2
+returns-2 c = search cases
+
+pub pick-spec : {M : Type 1} → statement M
+pick-spec = tie.close (tie.spec returns returns-2)

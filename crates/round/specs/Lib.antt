@@ -1,0 +1,6 @@
+pub mod RowLaws
+pub mod Round
+pub mod NoteLaws
+pub mod PlaceLaws
+pub mod Held
+pub mod HeldLaws
