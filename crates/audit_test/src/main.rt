@@ -24,11 +24,12 @@ fn cases(input: &[u8]) {
 
 // Shows a case, and answers where the next begins.
 fn show_case(input: &[u8], c: Case) -> usize
-    requires { ⌜ (c .name ≤ c .first) × (c .first ≤ c .second) × (c .second ≤ c .end) × (c .end ≤ length (now input)) ⌝ }
+    requires { ⌜ (c .name ≤ c .first) × (c .first ≤ c .second) × (c .second ≤ c .third) × (c .third ≤ c .end) × (c .end ≤ length (now input)) ⌝ }
 {
     let name = c.name;
     let first = c.first;
     let second = c.second;
+    let third = c.third;
     let end = c.end;
     if input.len() <= end {
         return input.len();
@@ -36,7 +37,7 @@ fn show_case(input: &[u8], c: Case) -> usize
     show(
         &input[name..first],
         &input[first..second],
-        &input[second..end],
+        &input[second..third],
     );
     end + 1
 }

@@ -1,5 +1,5 @@
-// The cases of a test program's input. A case has the lengths of its name and of its two texts in three fields, a line feed, the name,
-// the texts and a line feed.
+// The cases of a test program's input. A case has the lengths of its name and of its three texts in four fields, a line feed, the
+// name, the texts and a line feed.
 ghost use Prim.Native.Nat.{_≤_};
 ghost use lib.ListN.{length};
 use field::Field;
@@ -10,39 +10,43 @@ pub struct Case {
     pub name: usize,
     pub first: usize,
     pub second: usize,
+    pub third: usize,
     pub end: usize,
 }
 
 // The case at `at`, cut at the input's end: where nothing is left, all is at the end.
 pub fn case_at(input: &[u8], at: usize) -> Case
-    ensures { λ r. ⌜ (r .name ≤ r .first) × (r .first ≤ r .second) × (r .second ≤ r .end) × (r .end ≤ length (now (input .entry))) ⌝ }
+    ensures { λ r. ⌜ (r .name ≤ r .first) × (r .first ≤ r .second) × (r .second ≤ r .third) × (r .third ≤ r .end) × (r .end ≤ length (now (input .entry))) ⌝ }
 {
     let size = input.len();
-    if size < 16 {
+    if size < 21 {
         return ended(size);
     }
-    if size - 16 < at {
+    if size - 21 < at {
         return ended(size);
     }
-    let name = at + 16;
+    let name = at + 21;
     let first = after(size, name, number(read(input, at)));
     let second = after(size, first, number(read(input, at + 5)));
-    let end = after(size, second, number(read(input, at + 10)));
+    let third = after(size, second, number(read(input, at + 10)));
+    let end = after(size, third, number(read(input, at + 15)));
     Case {
         name,
         first,
         second,
+        third,
         end,
     }
 }
 
 fn ended(size: usize) -> Case
-    ensures { λ r. ⌜ (r .name ≤ r .first) × (r .first ≤ r .second) × (r .second ≤ r .end) × (r .end ≤ size) ⌝ }
+    ensures { λ r. ⌜ (r .name ≤ r .first) × (r .first ≤ r .second) × (r .second ≤ r .third) × (r .third ≤ r .end) × (r .end ≤ size) ⌝ }
 {
     Case {
         name: size,
         first: size,
         second: size,
+        third: size,
         end: size,
     }
 }

@@ -24,7 +24,7 @@ fn cases(input: &[u8]) {
 
 // Shows a case, and answers where the next begins.
 fn show_case(input: &[u8], c: Case) -> usize
-    requires { ⌜ (c .name ≤ c .first) × (c .first ≤ c .second) × (c .second ≤ c .end) × (c .end ≤ length (now input)) ⌝ }
+    requires { ⌜ (c .name ≤ c .first) × (c .first ≤ c .second) × (c .second ≤ c .third) × (c .third ≤ c .end) × (c .end ≤ length (now input)) ⌝ }
 {
     let name = c.name;
     let first = c.first;
