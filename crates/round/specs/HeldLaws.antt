@@ -17,7 +17,7 @@ use Rattle.game.specs.Table.{Table, Placement, unplaced, placed, placementAt, i
 use Rattle.game.specs.TableLaws.{Takes, place-at, place-length}
 use Rattle.game.specs.Rows.{RowIs, ownerNumber, Filled}
 use Rattle.game.specs.Members.{at-member}
-use Rattle.round.specs.RowLaws.{Marked, found, numberAt}
+use Rattle.round.specs.RowLaws.{Noted, found, numberAt}
 use Rattle.round.specs.Round.{bit, free, taken, Placing, Within, decides, disturbs, readyFlag}
 use Rattle.round.specs.Held.{Holds, Flags, Decoded}
 
@@ -156,9 +156,9 @@ module _ (a : Arena) (n m : ℕ) (owners costs froms tos : List ℕ) (d : Decode
         other environment x e = rw (e, and-false)
 
     -- the flags are those of the positions that are ready
-    pub ready-flag : (flags : List ℕ) → Marked n (numberAt froms) (decides owners costs froms tos values) (readyFlag owners) m flags → eqb (getD flags v 0) 1 ≡ ready a t v
+    pub ready-flag : (flags : List ℕ) → Noted n (numberAt froms) (decides owners costs froms tos values) (readyFlag owners) m flags → eqb (getD flags v 0) 1 ≡ ready a t v
     unfolding readyFlag ready readyAs settling
-    ready-flag flags marked = rw (marked .marks v inside, d .owner v inside) (go (ownerAt a v) refl)
+    ready-flag flags noted = rw (noted .notes v inside, d .owner v inside) (go (ownerAt a v) refl)
       where
         go : (o : Owner) → ownerAt a v ≡ o
             → eqb (cond (eqb (ownerNumber o) 0) (bit (not (found (numberAt froms) (decides owners costs froms tos values) m v))) (bit (found (numberAt froms) (decides owners costs froms tos values) m v))) 1
@@ -167,9 +167,9 @@ module _ (a : Arena) (n m : ℕ) (owners costs froms tos : List ℕ) (d : Decode
         go environment own = bit-one _ ∙ decided environment own
 
     -- and those of the positions that a disturbance leads from into value k
-    pub disturbed-flag : (k : ℕ) → k < 65535 → (flags : List ℕ) → Marked n (numberAt froms) (disturbs costs tos values k) (λ v. bit) m flags → eqb (getD flags v 0) 1 ≡ begins a (suc k) t v
+    pub disturbed-flag : (k : ℕ) → k < 65535 → (flags : List ℕ) → Noted n (numberAt froms) (disturbs costs tos values k) (λ v. bit) m flags → eqb (getD flags v 0) 1 ≡ begins a (suc k) t v
     unfolding begins disturbs disturbanceFrom
-    disturbed-flag k small flags marked = rw (marked .marks v inside) (bit-one _ ∙ lines-of v (disturbs costs tos values k) into same other)
+    disturbed-flag k small flags noted = rw (noted .notes v inside) (bit-one _ ∙ lines-of v (disturbs costs tos values k) into same other)
       where
         into : Move → Bool
         into x = disturbanceFrom v x && hasValue k (placementAt t (x .to))

@@ -63,8 +63,8 @@ unfoldable pub found : (ℕ → ℕ) → (ℕ → Bool) → ℕ → ℕ → Bool
 found at q i v = someBelow (λ j. eqb (at j) v && q j) i
 
 -- at each place below n the row has g of whether such an item was among the first i
-pub record Marked (n : ℕ) (at : ℕ → ℕ) (q : ℕ → Bool) (g : ℕ → Bool → ℕ) (i : ℕ) (row : List ℕ) : Type 0 where
-  pub marks : RowIs row n (λ v. g v (found at q i v))
+pub record Noted (n : ℕ) (at : ℕ → ℕ) (q : ℕ → Bool) (g : ℕ → Bool → ℕ) (i : ℕ) (row : List ℕ) : Type 0 where
+  pub notes : RowIs row n (λ v. g v (found at q i v))
 
 pub some-next : (p : ℕ → Bool) (i : ℕ) → someBelow p (i + 1) ≡ (someBelow p i || p i)
 unfolding someBelow
@@ -91,40 +91,40 @@ unfolding found
 found-same at p q i v h = some-same (λ j. eqb (at j) v && p j) (λ j. eqb (at j) v && q j) i (λ j l. rw (h j l))
 
 -- before the first item
-pub marked-none : {n : ℕ} {at : ℕ → ℕ} {q : ℕ → Bool} {g : ℕ → Bool → ℕ} {row : List ℕ} → RowIs row n (λ v. g v false) → Marked n at q g 0 row
+pub noted-none : {n : ℕ} {at : ℕ → ℕ} {q : ℕ → Bool} {g : ℕ → Bool → ℕ} {row : List ℕ} → RowIs row n (λ v. g v false) → Noted n at q g 0 row
 unfolding found someBelow
-marked-none h = record { marks = h }
+noted-none h = record { notes = h }
 
-module _ {n : ℕ} {at : ℕ → ℕ} {q : ℕ → Bool} {g : ℕ → Bool → ℕ} {i : ℕ} {row : List ℕ} (h : Marked n at q g i row) where
-  marked-hit : n ≤ length row → at i < n → q i ≡ true → Marked n at q g (i + 1) (set row (at i) (g (at i) true))
+module _ {n : ℕ} {at : ℕ → ℕ} {q : ℕ → Bool} {g : ℕ → Bool → ℕ} {i : ℕ} {row : List ℕ} (h : Noted n at q g i row) where
+  noted-hit : n ≤ length row → at i < n → q i ≡ true → Noted n at q g (i + 1) (set row (at i) (g (at i) true))
   unfolding found
-  marked-hit l inside e = record { marks = λ v m. go v m (ℕ-discrete v (at i)) }
+  noted-hit l inside e = record { notes = λ v m. go v m (ℕ-discrete v (at i)) }
     where
       go : (v : ℕ) → v < n → Dec (v ≡ at i) → getD (set row (at i) (g (at i) true)) v 0 ≡ g v (found at q (i + 1) v)
       go v m (yes z) = rw (z, some-next, eq-eqb (at i) (at i) refl, e, or-true) (getD-set-same row (at i) (g (at i) true) 0 (omega arith))
-      go v m (no z) = rw (some-next, ne-eqb (at i) v (λ e. z (sym e)), or-false) (getD-set-other row (at i) v (g (at i) true) 0 z ∙ h .marks v m)
+      go v m (no z) = rw (some-next, ne-eqb (at i) v (λ e. z (sym e)), or-false) (getD-set-other row (at i) v (g (at i) true) 0 z ∙ h .notes v m)
 
-  marked-miss : q i ≡ false → Marked n at q g (i + 1) row
+  noted-miss : q i ≡ false → Noted n at q g (i + 1) row
   unfolding found
-  marked-miss e = record { marks = λ v m. go v m (ℕ-discrete v (at i)) }
+  noted-miss e = record { notes = λ v m. go v m (ℕ-discrete v (at i)) }
     where
       go : (v : ℕ) → v < n → Dec (v ≡ at i) → getD row v 0 ≡ g v (found at q (i + 1) v)
-      go v m (yes z) = rw (some-next, eq-eqb (at i) v (sym z), e, or-false) (h .marks v m)
-      go v m (no z) = rw (some-next, ne-eqb (at i) v (λ e. z (sym e)), or-false) (h .marks v m)
+      go v m (yes z) = rw (some-next, eq-eqb (at i) v (sym z), e, or-false) (h .notes v m)
+      go v m (no z) = rw (some-next, ne-eqb (at i) v (λ e. z (sym e)), or-false) (h .notes v m)
 
-  -- a turn: an item with the property marks its place, any other changes nothing
-  pub marked-next : n ≤ length row → (q i ≡ true → at i < n) → Marked n at q g (i + 1) (setIf (q i) (at i) (g (at i) true) row)
-  marked-next l inside = go (q i) refl
+  -- a turn: an item with the property notes its place, any other changes nothing
+  pub noted-next : n ≤ length row → (q i ≡ true → at i < n) → Noted n at q g (i + 1) (setIf (q i) (at i) (g (at i) true) row)
+  noted-next l inside = go (q i) refl
     where
-      go : (b : Bool) → q i ≡ b → Marked n at q g (i + 1) (setIf b (at i) (g (at i) true) row)
-      go true e = marked-hit l (inside e) e
-      go false e = marked-miss e
+      go : (b : Bool) → q i ≡ b → Noted n at q g (i + 1) (setIf b (at i) (g (at i) true) row)
+      go true e = noted-hit l (inside e) e
+      go false e = noted-miss e
 
-  -- the same turn where every item marks, but one without the property past the n places
-  pub marked-aside : n ≤ length row → n ≤ 512 → at i < n → Marked n at q g (i + 1) (set row (spotIf (q i) (at i)) (g (at i) true))
+  -- the same turn where every item leaves a note, but one without the property past the n places
+  pub noted-aside : n ≤ length row → n ≤ 512 → at i < n → Noted n at q g (i + 1) (set row (spotIf (q i) (at i)) (g (at i) true))
   unfolding spotIf
-  marked-aside l small inside = go (q i) refl
+  noted-aside l small inside = go (q i) refl
     where
-      go : (b : Bool) → q i ≡ b → Marked n at q g (i + 1) (set row (spotIf b (at i)) (g (at i) true))
-      go true e = marked-hit l inside e
-      go false e = record { marks = λ v m. getD-set-other row 512 v (g (at i) true) 0 (λ z. omega arith) ∙ marked-miss e .marks v m }
+      go : (b : Bool) → q i ≡ b → Noted n at q g (i + 1) (set row (spotIf b (at i)) (g (at i) true))
+      go true e = noted-hit l inside e
+      go false e = record { notes = λ v m. getD-set-other row 512 v (g (at i) true) 0 (λ z. omega arith) ∙ noted-miss e .notes v m }

@@ -5,7 +5,7 @@ ghost use mathlib.Core.Bool.{false, cond, not, _&&_};
 ghost use lib.ListN.{length, getD, set};
 ghost use lib.Dec.{eqb};
 ghost use Rattle.game.specs.Rows.{Filled, RowIs};
-ghost use Rattle.round.specs.RowLaws.{Marked, numberAt, spotIf};
+ghost use Rattle.round.specs.RowLaws.{Noted, numberAt, spotIf};
 ghost use Rattle.round.specs.Round.{AtMove, Placing, PlacingAt, Within, bit, decides, disturbs, firstFlag, meets, readyFlag};
 
 // The value and the step of a position that is not placed, and of one that never is: "ever" and the dash.
@@ -156,7 +156,7 @@ fn note(
     found: &mut [u8],
 )
     requires { ⌜ Within n m (now costs) (now froms) (now tos) × (n ≤ 512) × (n ≤ length (now seeks)) × (n ≤ length (now shows)) × (512 < length (now found)) × RowIs (now found) n (λ v. 0) ⌝ }
-    ensures { λ _. ⌜ Marked n (numberAt (now (froms .entry))) (meets cost (now (seeks .entry)) (now (shows .entry)) (now (costs .entry)) (now (froms .entry)) (now (tos .entry))) (λ v. bit) m (now (found .exit)) ⌝ }
+    ensures { λ _. ⌜ Noted n (numberAt (now (froms .entry))) (meets cost (now (seeks .entry)) (now (shows .entry)) (now (costs .entry)) (now (froms .entry)) (now (tos .entry))) (λ v. bit) m (now (found .exit)) ⌝ }
 {
     let mut i: usize = 0;
     while i < m {
@@ -198,7 +198,7 @@ pub fn flag_ready(
     flags: &mut [u8],
 )
     requires { ⌜ Within n m (now costs) (now froms) (now tos) × (n ≤ 512) × (n ≤ length (now owners)) × (n ≤ length (now values)) × (n ≤ length (now flags)) ⌝ }
-    ensures { λ _. ⌜ Marked n (numberAt (now (froms .entry))) (decides (now (owners .entry)) (now (costs .entry)) (now (froms .entry)) (now (tos .entry)) (now (values .entry))) (readyFlag (now (owners .entry))) m (now (flags .exit)) ⌝ }
+    ensures { λ _. ⌜ Noted n (numberAt (now (froms .entry))) (decides (now (owners .entry)) (now (costs .entry)) (now (froms .entry)) (now (tos .entry)) (now (values .entry))) (readyFlag (now (owners .entry))) m (now (flags .exit)) ⌝ }
 {
     let mut firsts = [0u8; 512];
     let mut shows = [0u8; 512];
@@ -221,7 +221,7 @@ pub fn flag_disturbed(
     flags: &mut [u8],
 )
     requires { ⌜ Within n m (now costs) (now froms) (now tos) × (n ≤ 512) × (n ≤ length (now values)) × (n ≤ length (now flags)) ⌝ }
-    ensures { λ _. ⌜ Marked n (numberAt (now (froms .entry))) (disturbs (now (costs .entry)) (now (tos .entry)) (now (values .entry)) k) (λ v. bit) m (now (flags .exit)) ⌝ }
+    ensures { λ _. ⌜ Noted n (numberAt (now (froms .entry))) (disturbs (now (costs .entry)) (now (tos .entry)) (now (values .entry)) k) (λ v. bit) m (now (flags .exit)) ⌝ }
 {
     let firsts = [0u8; 512];
     let ones = [1u8; 512];

@@ -10,7 +10,7 @@ use Rattle.game.specs.Arena.{Arena, size}
 use Rattle.game.specs.Table.{Table, placed, place, ready, tableAfter}
 use Rattle.game.specs.TableLaws.{Takes}
 use Rattle.game.specs.Stable.{Settled, settled-stays, steps-stop-early}
-use Rattle.round.specs.RowLaws.{Marked, Stays, numberAt}
+use Rattle.round.specs.RowLaws.{Noted, Stays, numberAt}
 use Rattle.round.specs.Round.{Placing, decides, readyFlag}
 use Rattle.round.specs.Held.{Holds, Flags, Decoded}
 use Rattle.solver.specs.Solving.{Settling}
@@ -26,11 +26,11 @@ module _ {n m : ℕ} {owners costs froms tos : List ℕ} {k : ℕ} {values steps
 
   module _ {s : ℕ} {values′ steps′ flags values″ steps″ : List ℕ} {count : ℕ} (small : k < 65535)
       (so-far : Settling n m owners costs froms tos k s values steps values′ steps′)
-      (marked : Marked n (numberAt froms) (decides owners costs froms tos values′) (readyFlag owners) m flags)
+      (noted : Noted n (numberAt froms) (decides owners costs froms tos values′) (readyFlag owners) m flags)
       (round : Placing n flags k (s + 1) values′ steps′ values″ steps″ count) where
     flagged : (a : Arena) (start : Table) → Decoded a n m owners costs froms tos → Holds (tableAfter a start k s) n values′ steps′
         → Flags (ready a (tableAfter a start k s)) n flags
-    flagged a start d held v l = ready-flag a n m owners costs froms tos d (tableAfter a start k s) values′ steps′ held v l flags marked
+    flagged a start d held v l = ready-flag a n m owners costs froms tos d (tableAfter a start k s) values′ steps′ held v l flags noted
 
     after : (a : Arena) (start : Table) → Decoded a n m owners costs froms tos → Holds (tableAfter a start k s) n values′ steps′
         → Holds (tableAfter a start k (suc s)) n values″ steps″

@@ -14,7 +14,7 @@ use Rattle.game.specs.TableLaws.{Takes, place-none}
 use Rattle.game.specs.RoundTables.{before-length}
 use Rattle.game.specs.Stable.{values-end, values-stop-at-a-quiet-round}
 use Rattle.game.specs.Rows.{RowIs, Filled}
-use Rattle.round.specs.RowLaws.{Marked, Stays, numberAt}
+use Rattle.round.specs.RowLaws.{Noted, Stays, numberAt}
 use Rattle.round.specs.Round.{bit, Placing, disturbs}
 use Rattle.round.specs.Held.{Holds, Flags, Decoded}
 use Rattle.solver.specs.Solving.{Settling, Solving, Solved}
@@ -78,11 +78,11 @@ module _ {n m : ℕ} {owners marks costs froms tos values steps : List ℕ} wher
             subst (λ (t : Table). Holds t n values′ steps′) (values-end a (suc last) (omega arith)) (so-far .rows a d marked)
 
     module _ {flags values″ steps″ : List ℕ} {count : ℕ} (small : last + 1 < 65535)
-        (marked : Marked n (numberAt froms) (disturbs costs tos values′ last) (λ v. bit) m flags)
+        (noted : Noted n (numberAt froms) (disturbs costs tos values′ last) (λ v. bit) m flags)
         (round : Placing n flags (last + 1) 0 values′ steps′ values″ steps″ count) where
       flagged : (a : Arena) → Decoded a n m owners costs froms tos → Holds (tableBefore a (suc last)) n values′ steps′
           → Flags (begins a (suc last) (tableBefore a (suc last))) n flags
-      flagged a d held v l = disturbed-flag a n m owners costs froms tos d (tableBefore a (suc last)) values′ steps′ held v l last (omega arith) flags marked
+      flagged a d held v l = disturbed-flag a n m owners costs froms tos d (tableBefore a (suc last)) values′ steps′ held v l last (omega arith) flags noted
 
       after : (a : Arena) → Decoded a n m owners costs froms tos → Holds (tableBefore a (suc last)) n values′ steps′
           → Holds (tableAfter a (tableBefore a (suc last)) (suc last) 0) n values″ steps″

@@ -30,7 +30,7 @@ use Rattle.chart.specs.Accepted.{accepted-size}
 use Rattle.chart.specs.declared.Chart.{Chart}
 use Rattle.refusal.specs.declared.Refusal.{Refusal}
 use Rattle.chart.specs.declared.Examination.the-variants.{Accepted, Refused}
-use Rattle.round.specs.RowLaws.{Stays, Marked, found, numberAt, some-hit, some-same}
+use Rattle.round.specs.RowLaws.{Stays, Noted, found, numberAt, some-hit, some-same}
 use Rattle.round.specs.Round.{bit, Within}
 use Rattle.round.specs.Held.{Holds, Decoded}
 use Rattle.solver.specs.Solving.{Solved}
@@ -160,10 +160,10 @@ module _ (a : Arena) (n m : ℕ) (owners costs froms tos choices : List ℕ) (sm
   -- The choices
 
   -- the code's test is condition 3
-  legal-is : (flags : List ℕ) → Marked n (numberAt froms) (isChosen costs froms tos choices) (λ v. bit) m flags → (v : ℕ) → v < n
+  legal-is : (flags : List ℕ) → Noted n (numberAt froms) (isChosen costs froms tos choices) (λ v. bit) m flags → (v : ℕ) → v < n
       → isLegal owners choices flags v ≡ legalAs a choice choice choice (ownerAt a v) v
   unfolding isLegal legalAs isChosen meantFrom
-  legal-is flags marked v l = rw (d .owner v l) (go (ownerAt a v) refl)
+  legal-is flags noted v l = rw (d .owner v l) (go (ownerAt a v) refl)
     where
       into : Move → Bool
       into x = meantFrom v x && eqV (choice v) (fin (x .to))
@@ -177,14 +177,14 @@ module _ (a : Arena) (n m : ℕ) (owners costs froms tos choices : List ℕ) (sm
 
       go : (o : Owner) → ownerAt a v ≡ o
           → cond (eqb (ownerNumber o) 0) (eqb (getD flags v 0) 1) (eqb (getD choices v 0) 65535) ≡ legalAs a choice choice choice o v
-      go controller own = rw (marked .marks v l) (bit-one _ ∙ lines-of a n m owners costs froms tos d v (isChosen costs froms tos choices) into same other)
+      go controller own = rw (noted .notes v l) (bit-one _ ∙ lines-of a n m owners costs froms tos d v (isChosen costs froms tos choices) into same other)
       go environment own = sym (ever-number (getD choices v 0))
 
-  pub legal-row-is : (flags : List ℕ) → Marked n (numberAt froms) (isChosen costs froms tos choices) (λ v. bit) m flags
+  pub legal-row-is : (flags : List ℕ) → Noted n (numberAt froms) (isChosen costs froms tos choices) (λ v. bit) m flags
       → not (someBelow (λ v. not (isLegal owners choices flags v)) n) ≡ legalRow a choice n
   unfolding legalRow
-  legal-row-is flags marked =
-      ap not (some-same (λ v. not (isLegal owners choices flags v)) (λ v. not (legalAs a choice choice choice (ownerAt a v) v)) n (λ v l. ap not (legal-is flags marked v l)))
+  legal-row-is flags noted =
+      ap not (some-same (λ v. not (isLegal owners choices flags v)) (λ v. not (legalAs a choice choice choice (ownerAt a v) v)) n (λ v l. ap not (legal-is flags noted v l)))
 
 -- legal choices, as a test
 pub legal-row-sound : (a : Arena) (choice : ℕ → Value) → legalRow a choice (size a) ≡ true → Legal a choice
@@ -228,11 +228,11 @@ worths-fit a wf choice legal few v = round-value-fits (restricted a choice) (res
 -- The answers over rows
 
 module _ {n m : ℕ} {owners marks costs froms tos choices worths : List ℕ} (small : n ≤ 512) where
-  module _ {flags : List ℕ} (marked : Marked n (numberAt froms) (isChosen costs froms tos choices) (λ v. bit) m flags) where
+  module _ {flags : List ℕ} (noted : Noted n (numberAt froms) (isChosen costs froms tos choices) (λ v. bit) m flags) where
     pub weighed-illegal : not (someBelow (λ v. not (isLegal owners choices flags v)) n) ≡ false → RowsWeighed n m owners marks costs froms tos choices worths worths false
     weighed-illegal e =
         record {
-          answer = λ a d. sym e ∙ legal-row-is a n m owners costs froms tos choices small d flags marked;
+          answer = λ a d. sym e ∙ legal-row-is a n m owners costs froms tos choices small d flags noted;
           taken = λ a d marked f. let z : _≡_ {A = ℕ} 0 1 = cc in absurd (omega arith);
           refused = λ f. refl;
         }
@@ -242,7 +242,7 @@ module _ {n m : ℕ} {owners marks costs froms tos choices worths : List ℕ} (s
         → RowsWeighed n m owners marks costs froms tos choices worths worths′ true
     weighed-legal {worths′} e solved same =
         record {
-          answer = λ a d. sym e ∙ legal-row-is a n m owners costs froms tos choices small d flags marked;
+          answer = λ a d. sym e ∙ legal-row-is a n m owners costs froms tos choices small d flags noted;
           taken = λ a d marks f. worth-row a d marks;
           refused = λ f. let z : _≡_ {A = ℕ} 0 1 = cc in absurd (omega arith);
         }
@@ -250,7 +250,7 @@ module _ {n m : ℕ} {owners marks costs froms tos choices worths : List ℕ} (s
         worth-row : (a : Arena) → Decoded a n m owners costs froms tos → RowIs marks n (λ v. positionAt a v .mark) → WorthRow a n choices worths worths′
         worth-row a d marks =
             let c = rowValue choices in
-            let legal : Legal a c = legal-row-sound a c (rw (d .positions) (sym (legal-row-is a n m owners costs froms tos choices small d flags marked) ∙ e)) in
+            let legal : Legal a c = legal-row-sound a c (rw (d .positions) (sym (legal-row-is a n m owners costs froms tos choices small d flags noted) ∙ e)) in
             let row = solved .rows a d marks legal in
             let p = d .positions in
             record {

@@ -4,7 +4,7 @@ ghost use mathlib.Core.Bool.{not};
 ghost use Prim.Native.Nat.{_<_, _≤_};
 ghost use lib.ListN.{length, getD};
 ghost use Rattle.game.specs.Summary.{someBelow};
-ghost use Rattle.round.specs.RowLaws.{Marked, numberAt, setIf};
+ghost use Rattle.round.specs.RowLaws.{Noted, numberAt, setIf};
 ghost use Rattle.round.specs.Round.{AtMove, Within, bit};
 ghost use Rattle.weighing.specs.Weighing.{RestrictedSolved, RowsWeighed, WeighedIs};
 ghost use Rattle.weighing.specs.Weigh.{Copied, CopiedMove, isChosen, isLegal, moveStays};
@@ -160,7 +160,7 @@ fn flag_chosen(
     flags: &mut [u8],
 )
     requires { ⌜ Within n m (now costs) (now froms) (now tos) × (n ≤ length (now choices)) × (n ≤ length (now flags)) ⌝ }
-    ensures { λ _. ⌜ Marked n (numberAt (now (froms .entry))) (isChosen (now (costs .entry)) (now (froms .entry)) (now (tos .entry)) (now (choices .entry))) (λ v. bit) m (now (flags .exit)) ⌝ }
+    ensures { λ _. ⌜ Noted n (numberAt (now (froms .entry))) (isChosen (now (costs .entry)) (now (froms .entry)) (now (tos .entry)) (now (choices .entry))) (λ v. bit) m (now (flags .exit)) ⌝ }
 {
     flag_none(n, flags);
     let mut i: usize = 0;

@@ -3,7 +3,7 @@ use Prim.Native.Nat.{ℕ, _+_, _-_, _≤_, _<_}
 use native.Mathlib.Omega.{arith}
 use borrow.Author.Needs.{needs}
 use lib.ListN.{length, getD, set, length-set, replicate}
-use Rattle.round.specs.NoteLaws.{row-replicate, disturbed-marked}
+use Rattle.round.specs.NoteLaws.{row-replicate, disturbed-noted}
 use Rattle.round.proofs.flag_disturbed.Statement.{statement}
 use Rattle.round.proofs.flag_disturbed.Tie as tie
 use Rattle.round.proofs.flag_disturbed.Reads as reads
@@ -44,8 +44,8 @@ same-length c = search needs
 
 returns : tie.Need-returns
 returns c =
-    let marked = c .before .before .before .before .before .before .before .note .ensures in
-    disturbed-marked (c .before .before .before .before .before .before .before .before .before .before .before .before .before .before .before .before .before .before .before .pre .0) _ (replicate 512 0) _ _ _ (row-replicate 512 1 (omega (arith, c .before .before .before .before .before .before .before .before .before .before .before .before .before .before .before .before .before .before .before))) (row-replicate 512 0 (omega (arith, c .before .before .before .before .before .before .before .before .before .before .before .before .before .before .before .before .before .before .before))) (c .before .before .before .before .before .before .before .before .before .before .before .before .show .ensures .row) marked (c .before .before .turn .ensures .row)
+    let noted = c .before .before .before .before .before .before .before .note .ensures in
+    disturbed-noted (c .before .before .before .before .before .before .before .before .before .before .before .before .before .before .before .before .before .before .before .pre .0) _ (replicate 512 0) _ _ _ (row-replicate 512 1 (omega (arith, c .before .before .before .before .before .before .before .before .before .before .before .before .before .before .before .before .before .before .before))) (row-replicate 512 0 (omega (arith, c .before .before .before .before .before .before .before .before .before .before .before .before .before .before .before .before .before .before .before))) (c .before .before .before .before .before .before .before .before .before .before .before .before .show .ensures .row) noted (c .before .before .turn .ensures .row)
 
 pub flag-disturbed-spec : {M : Type 1} → statement M
 flag-disturbed-spec =

@@ -3,7 +3,7 @@ use Prim.Native.Nat.{ℕ, _+_, _-_, _≤_, _<_}
 use native.Mathlib.Omega.{arith}
 use borrow.Author.Needs.{needs}
 use lib.ListN.{length, getD, set, length-set}
-use Rattle.round.specs.NoteLaws.{row-replicate, ready-marked}
+use Rattle.round.specs.NoteLaws.{row-replicate, ready-noted}
 use Rattle.round.proofs.flag_ready.Statement.{statement}
 use Rattle.round.proofs.flag_ready.Tie as tie
 use Rattle.round.proofs.flag_ready.Reads as reads
@@ -51,8 +51,8 @@ same-length c = search needs
 
 returns : tie.Need-returns
 returns c =
-    let marked = c .before .before .before .before .before .before .before .note .ensures in
-    ready-marked (c .before .before .before .before .before .before .before .before .before .before .before .before .before .before .before .before .before .before .before .before .before .before .before .pre .0) _ _ _ _ (c .before .before .before .before .before .before .before .before .before .before .before .before .before .before .before .flag-owners .ensures .row) (c .before .before .before .before .before .before .before .before .before .before .before .before .show .ensures .row) marked (c .before .before .turn .ensures .row)
+    let noted = c .before .before .before .before .before .before .before .note .ensures in
+    ready-noted (c .before .before .before .before .before .before .before .before .before .before .before .before .before .before .before .before .before .before .before .before .before .before .before .pre .0) _ _ _ _ (c .before .before .before .before .before .before .before .before .before .before .before .before .before .before .before .flag-owners .ensures .row) (c .before .before .before .before .before .before .before .before .before .before .before .before .show .ensures .row) noted (c .before .before .turn .ensures .row)
 
 pub flag-ready-spec : {M : Type 1} → statement M
 flag-ready-spec =

@@ -5,7 +5,7 @@ use native.Mathlib.Omega.{arith}
 use borrow.Author.Needs.{needs}
 use mathlib.Core.Path.{_≡_, refl}
 use lib.ListN.{length, getD, set, length-set}
-use Rattle.round.specs.RowLaws.{Marked, numberAt, marked-none, marked-aside}
+use Rattle.round.specs.RowLaws.{Noted, numberAt, noted-none, noted-aside}
 use Rattle.round.specs.Round.{AtMove, at-move, meets, bit}
 use Rattle.round.proofs.note.Statement.{statement}
 use Rattle.round.proofs.note.Tie as tie
@@ -15,13 +15,13 @@ use Rattle.round.proofs.note_by.Reads as note-by-reads
 
 abbrev Inv-loop : tie.InvT-loop
 Inv-loop n m cost seeks shows costs froms tos found₀ i₀ found i =
-    (i ≤ m) × (length found ≡ length found₀) × Marked n (numberAt froms) (meets cost seeks shows costs froms tos) (λ v. bit) i found
+    (i ≤ m) × (length found ≡ length found₀) × Noted n (numberAt froms) (meets cost seeks shows costs froms tos) (λ v. bit) i found
 
 abbrev μ-loop : tie.MeasureT-loop
 μ-loop n m cost seeks shows costs froms tos found₀ i₀ found i = m - i
 
 loop-holds : tie.Need-loop-holds Inv-loop μ-loop
-loop-holds c = (omega arith, refl, marked-none (c .before .before .before .before .before .before .pre .5))
+loop-holds c = (omega arith, refl, noted-none (c .before .before .before .before .before .before .pre .5))
 
 note-by-requires : tie.Need-note-by-requires Inv-loop μ-loop
 note-by-requires c κs =
@@ -39,7 +39,7 @@ loop-again : tie.Need-loop-again Inv-loop μ-loop
 loop-again c =
     let w = c .before .before .before .before .before .before .before .before .before .before .before .before .pre .0 in
     let at-loop = c .before .before .before .before .before in
-    (omega arith, omega arith, rw (c .before .before .note-by .ensures) (marked-aside (at-loop .loop .inv .2) (omega (arith, at-loop)) (omega arith) (w .from-inside _ (c .before .before .before .before .loop-test .taken))))
+    (omega arith, omega arith, rw (c .before .before .note-by .ensures) (noted-aside (at-loop .loop .inv .2) (omega (arith, at-loop)) (omega arith) (w .from-inside _ (c .before .before .before .before .loop-test .taken))))
 
 same-length : tie.Need-same-length Inv-loop μ-loop
 same-length c = omega arith

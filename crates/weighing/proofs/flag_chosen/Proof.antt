@@ -5,7 +5,7 @@ use native.Mathlib.Omega.{arith}
 use borrow.Author.Needs.{needs}
 use mathlib.Core.Path.{_≡_, refl, sym, ap, _∙_}
 use lib.ListN.{length, getD, set, length-set}
-use Rattle.round.specs.RowLaws.{Marked, numberAt, marked-none, marked-next}
+use Rattle.round.specs.RowLaws.{Noted, numberAt, noted-none, noted-next}
 use Rattle.round.specs.Round.{bit}
 use Rattle.weighing.specs.Weigh.{isChosen}
 use Rattle.weighing.proofs.flag_chosen.Statement.{statement}
@@ -16,7 +16,7 @@ use Rattle.round.proofs.flag_none.Reads as flag-none-reads
 use Rattle.weighing.proofs.flag_chosen_by.Reads as flag-chosen-by-reads
 
 abbrev Inv-loop : tie.InvT-loop
-Inv-loop n m costs froms tos choices flags₀ i₀ flags i = (i ≤ m) × (length flags ≡ length flags₀) × Marked n (numberAt froms) (isChosen costs froms tos choices) (λ v. bit) i flags
+Inv-loop n m costs froms tos choices flags₀ i₀ flags i = (i ≤ m) × (length flags ≡ length flags₀) × Noted n (numberAt froms) (isChosen costs froms tos choices) (λ v. bit) i flags
 
 abbrev μ-loop : tie.MeasureT-loop
 μ-loop n m costs froms tos choices flags₀ i₀ flags i = m - i
@@ -25,7 +25,7 @@ flag-none-requires : tie.Need-flag-none-requires Inv-loop μ-loop
 flag-none-requires c κs = omega arith
 
 loop-holds : tie.Need-loop-holds Inv-loop μ-loop
-loop-holds c = (omega arith, refl, marked-none (c .before .before .flag-none .ensures .row))
+loop-holds c = (omega arith, refl, noted-none (c .before .before .flag-none .ensures .row))
 
 flag-chosen-by-requires : tie.Need-flag-chosen-by-requires Inv-loop μ-loop
 flag-chosen-by-requires c κs = omega (arith, c .before .before .before .before .before .before .before .before .before .before .before .before .pre .0 .from-inside _ (c .before .loop-test .taken))
@@ -40,7 +40,7 @@ loop-again : tie.Need-loop-again Inv-loop μ-loop
 loop-again c =
     let w = c .before .before .before .before .before .before .before .before .before .before .before .before .before .before .before .pre .0 in
     let at-loop = c .before .before .before .before .before in
-    (omega arith, omega arith, rw (c .before .before .flag-chosen-by .ensures) (marked-next (at-loop .loop .inv .2) (omega (arith, at-loop)) (λ _. w .from-inside _ (c .before .before .before .before .loop-test .taken))))
+    (omega arith, omega arith, rw (c .before .before .flag-chosen-by .ensures) (noted-next (at-loop .loop .inv .2) (omega (arith, at-loop)) (λ _. w .from-inside _ (c .before .before .before .before .loop-test .taken))))
 
 same-length : tie.Need-same-length Inv-loop μ-loop
 same-length c = omega arith

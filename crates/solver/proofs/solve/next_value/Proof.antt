@@ -35,10 +35,10 @@ same-length-3 c = search needs
 
 returns : tie.Need-returns
 returns c =
-    let marked = c .before .before .before .before .before .before .before .before .before .before .before .flag-disturbed .ensures in
+    let noted = c .before .before .before .before .before .before .before .before .before .before .before .flag-disturbed .ensures in
     let round = c .before .before .before .before .before .place .ensures in
     let small : c .before .before .before .before .before .before .before .before .before .before .before .before .before .before .before .before .before .before .before .before .before .args .last + 1 < 65535 = omega (arith, c .before .before .before .before .before .before .before .before .before .before .before .before .before .before .before .before .before .before .before .before .before .pre) in
-    record { goes-on = λ so-far some. absurd (some refl); stops = λ so-far none. solving-stops so-far small marked round (c .if1 .taken) }
+    record { goes-on = λ so-far some. absurd (some refl); stops = λ so-far none. solving-stops so-far small noted round (c .if1 .taken) }
 
 settle-requires : tie.Need-settle-requires
 settle-requires c κs =
@@ -58,11 +58,11 @@ same-length-6 c = search needs
 
 returns-2 : tie.Need-returns-2
 returns-2 c =
-    let marked = c .before .before .before .before .before .before .before .before .before .before .before .before .before .before .before .before .before .before .before .before .before .flag-disturbed .ensures in
+    let noted = c .before .before .before .before .before .before .before .before .before .before .before .before .before .before .before .before .before .before .before .before .before .flag-disturbed .ensures in
     let round = c .before .before .before .before .before .before .before .before .before .before .before .before .before .before .before .place .ensures in
     let settled = c .before .before .before .before .before .before .settle .ensures in
     let small : c .before .before .before .before .before .before .before .before .before .before .before .before .before .before .before .before .before .before .before .before .before .before .before .before .before .before .before .before .before .before .before .args .last + 1 < 65535 = omega (arith, c .before .before .before .before .before .before .before .before .before .before .before .before .before .before .before .before .before .before .before .before .before .before .before .before .before .before .before .before .before .before .before .pre) in
-    record { goes-on = λ so-far some. solving-next so-far small marked round settled; stops = λ so-far none. absurd (c .before .before .before .before .before .before .before .before .before .before .if1 .left none) }
+    record { goes-on = λ so-far some. solving-next so-far small noted round settled; stops = λ so-far none. absurd (c .before .before .before .before .before .before .before .before .before .before .if1 .left none) }
 
 pub next-value-spec : {M : Type 1} → statement M
 next-value-spec =

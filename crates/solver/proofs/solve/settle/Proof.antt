@@ -51,9 +51,9 @@ returns : tie.Need-returns Inv-loop μ-loop
 returns c =
     let start = c .before .before .before .before .before .before .before .before .before .before .before .before .before .before .before .before .before .before .before .before .before .before .before in
     let so-far = c .before .before .before .before .before .before .before .before .before .before .before .before .before .before .before .loop .inv .4 in
-    let marked = c .before .before .before .before .before .before .before .before .before .before .before .flag-ready .ensures in
+    let noted = c .before .before .before .before .before .before .before .before .before .before .before .flag-ready .ensures in
     let round = c .before .before .before .before .before .place .ensures in
-    settling-stops (start .pre .2) so-far marked round (c .if1 .taken)
+    settling-stops (start .pre .2) so-far noted round (c .if1 .taken)
 
 loop-less : tie.Need-loop-less Inv-loop μ-loop
 loop-less c = omega arith
@@ -62,10 +62,10 @@ loop-again : tie.Need-loop-again Inv-loop μ-loop
 loop-again c =
     let start = c .before .before .before .before .before .before .before .before .before .before .before .before .before .before .before .before .before .before .before .before .before .before .before in
     let so-far = c .before .before .before .before .before .before .before .before .before .before .before .before .before .before .before .loop .inv .4 in
-    let marked = c .before .before .before .before .before .before .before .before .before .before .before .flag-ready .ensures in
+    let noted = c .before .before .before .before .before .before .before .before .before .before .before .flag-ready .ensures in
     let round = c .before .before .before .before .before .place .ensures in
     let at-loop = c .before .before .before .before .before .before .before .before .before .before .before .before .before .before .before in
-    (omega (arith, c .before .before .before .before .before .before .before .before .before .before .before .before .before .before .loop-test .taken), omega (arith, at-loop, c .before .before .before .before .before .before .before .before .before .before .before .flag-ready .kept), omega (arith, at-loop), omega (arith, at-loop), settling-next (start .pre .2) so-far marked round)
+    (omega (arith, c .before .before .before .before .before .before .before .before .before .before .before .before .before .before .loop-test .taken), omega (arith, at-loop, c .before .before .before .before .before .before .before .before .before .before .before .flag-ready .kept), omega (arith, at-loop), omega (arith, at-loop), settling-next (start .pre .2) so-far noted round)
 
 same-length-4 : tie.Need-same-length-4 Inv-loop μ-loop
 same-length-4 c = omega arith
