@@ -4,7 +4,7 @@ use Prim.Native.Nat.{ℕ}
 use mathlib.Core.Bool.{Bool, true, false}
 use Rattle.refusal.specs.Numbers.{refusalNumber, refusalLine}
 use Rattle.refusal.specs.declared.Refusal.{Refusal}
-use Rattle.choice.specs.declared.summary.Summary.{Summary}
+use Rattle.summary.specs.declared.Summary.{Summary}
 use Rattle.value.specs.declared.valuing.Valued.{Valued}
 use Rattle.value.specs.declared.valuing.Valued.the-variants.{Rounds, Refused as NotValued, Short as NoRoom}
 use Rattle.weighing.specs.declared.Weighed.{Weighed}

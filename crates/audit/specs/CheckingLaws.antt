@@ -15,8 +15,8 @@ use Rattle.chart.specs.declared.Chart.{Chart}
 use Rattle.refusal.specs.declared.Refusal.{Refusal}
 use Rattle.chart.specs.declared.Examination.the-variants.{Accepted as Taken, Refused as Turned}
 use Rattle.round.specs.Held.{Decoded}
-use Rattle.choice.specs.Summarize.{rowValue}
-use Rattle.choice.specs.declared.summary.Summary.{Summary}
+use Rattle.summary.specs.Summarize.{rowValue}
+use Rattle.summary.specs.declared.Summary.{Summary}
 use Rattle.plate.specs.Form.{OfForm}
 use Rattle.plate.specs.Formed.{formOf}
 use Rattle.plate.specs.Exact.{form-exact}

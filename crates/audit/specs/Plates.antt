@@ -21,7 +21,7 @@ use Rattle.chart.specs.Accepted.{accepted-chartable, accepted-size}
 use Rattle.chart.specs.declared.Chart.{Chart}
 use Rattle.chart.specs.declared.Examination.the-variants.{Accepted as Taken}
 use Rattle.value.specs.ValuingLaws.{highest-same}
-use Rattle.choice.specs.declared.summary.Summary.{Summary}
+use Rattle.summary.specs.declared.Summary.{Summary}
 use Rattle.plate.specs.Text.{plateText}
 use Rattle.plate.specs.Form.{OfForm}
 use Rattle.plate.specs.Range.{Below, InRange}

@@ -1,4 +1,2 @@
 pub mod Choose
 pub mod ChooseLaws
-pub mod Summarize
-pub mod SummarizeLaws

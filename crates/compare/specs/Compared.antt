@@ -7,8 +7,8 @@ use Rattle.game.specs.Arena.{size}
 use Rattle.game.specs.Play.{Controller, Legal, positional}
 use Rattle.game.specs.Worth.{WorthIs, AtMost, IsValue}
 use Rattle.chart.specs.Meaning.{arenaOf}
-use Rattle.choice.specs.Summarize.{rowValue}
-use Rattle.choice.specs.declared.summary.Summary.{Summary}
+use Rattle.summary.specs.Summarize.{rowValue}
+use Rattle.summary.specs.declared.Summary.{Summary}
 use Rattle.plate.specs.Read.{valueIn}
 use Rattle.reading.specs.Reading.{ReadingIs}
 use Rattle.reading.specs.declared.Reading.the-variants.{Rows}

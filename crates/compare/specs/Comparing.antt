@@ -14,7 +14,7 @@ use Rattle.chart.specs.Examined.{examined}
 use Rattle.refusal.specs.Numbers.{refusalNumber, refusalLine}
 use Rattle.chart.specs.declared.Examination.{Examination}
 use Rattle.chart.specs.declared.Examination.the-variants.{Accepted as Taken, Refused as Turned}
-use Rattle.choice.specs.Summarize.{rowValue}
+use Rattle.summary.specs.Summarize.{rowValue}
 use Rattle.weighing.specs.Weighing.{weighed}
 use Rattle.weighing.specs.declared.Weighed.{Weighed}
 use Rattle.weighing.specs.declared.Weighed.the-variants.{Done, Refused as NotWeighed, Short as NoWorths, Choice as Unlawful}

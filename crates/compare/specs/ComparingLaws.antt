@@ -21,8 +21,8 @@ use Rattle.chart.specs.declared.Examination.{Examination}
 use Rattle.chart.specs.declared.Examination.the-variants.{Accepted as Taken}
 use Rattle.chart.specs.Accepted.{accepted-chartable, accepted-size}
 use Rattle.refusal.specs.declared.Refusal.{Refusal}
-use Rattle.choice.specs.Summarize.{rowValue}
-use Rattle.choice.specs.declared.summary.Summary.{Summary}
+use Rattle.summary.specs.Summarize.{rowValue}
+use Rattle.summary.specs.declared.Summary.{Summary}
 use Rattle.weighing.specs.Weighing.{weighed, WeighedIs}
 use Rattle.weighing.specs.declared.Weighed.{Weighed}
 use Rattle.weighing.specs.declared.Weighed.the-variants.{Done}

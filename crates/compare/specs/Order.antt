@@ -14,7 +14,7 @@ use Rattle.chart.specs.Accepted.{accepted-chartable, accepted-size}
 use Rattle.chart.specs.declared.Chart.{Chart}
 use Rattle.refusal.specs.declared.Refusal.{Refusal}
 use Rattle.chart.specs.declared.Examination.the-variants.{Accepted as Taken, Refused as Turned}
-use Rattle.choice.specs.Summarize.{rowValue}
+use Rattle.summary.specs.Summarize.{rowValue}
 use Rattle.weighing.specs.Weighing.{legalRow, weighed, weighedBy}
 use Rattle.weighing.specs.declared.Weighed.the-variants.{Done, Choice as Unlawful}
 use Rattle.plate.specs.Formed.{formOf}

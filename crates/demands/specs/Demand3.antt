@@ -13,8 +13,8 @@ use Rattle.game.specs.Arena.{Arena, controller, size, ownerAt}
 use Rattle.game.specs.Play.{Trail, Controller, last, positional}
 use Rattle.game.specs.Worth.{WorthIs, AtMost}
 use Rattle.chart.specs.Meaning.{arenaOf}
-use Rattle.choice.specs.Summarize.{rowValue}
-use Rattle.choice.specs.declared.summary.Summary.{Summary}
+use Rattle.summary.specs.Summarize.{rowValue}
+use Rattle.summary.specs.declared.Summary.{Summary}
 use Rattle.weighing.specs.Weighing.{weighed, WeighedIs}
 use Rattle.weighing.specs.declared.Weighed.the-variants.{Done}
 use Rattle.reading.specs.Reading.{ReadingIs}

@@ -27,7 +27,7 @@ use Rattle.chart.specs.Examined.{examined}
 use Rattle.chart.specs.Accepted.{accepted-chartable, accepted-size}
 use Rattle.chart.specs.declared.Chart.{Chart}
 use Rattle.chart.specs.declared.Examination.the-variants.{Accepted as Taken}
-use Rattle.choice.specs.Summarize.{rowValue}
+use Rattle.summary.specs.Summarize.{rowValue}
 use Rattle.value.specs.ValuingLaws.{round-value-fits}
 use Rattle.weighing.specs.Weighing.{weighed, weighedBy, WeighedIs}
 use Rattle.weighing.specs.WeighingLaws.{legal-row-complete}

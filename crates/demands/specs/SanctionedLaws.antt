@@ -19,7 +19,7 @@ use Rattle.chart.specs.declared.Chart.{Chart}
 use Rattle.chart.specs.declared.Examination.{Examination}
 use Rattle.chart.specs.declared.Examination.the-variants.{Accepted as Taken, Refused}
 use Rattle.writing.specs.Writing.{plateOf, summaryOf, written, writtenBy, WrittenIs}
-use Rattle.writing.specs.ResponseLaws.{plate-length}
+use Rattle.writing.specs.WritingLaws.{plate-length}
 use Rattle.writing.specs.declared.Written.{Written}
 use Rattle.writing.specs.declared.Written.the-variants.{Length, Refused as Turned, Short}
 use Rattle.verdict.specs.Verdict.{HeaderIs}

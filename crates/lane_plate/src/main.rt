@@ -8,6 +8,6 @@ fn main() {
     let mut text = [0u8; 55309];
     let got = io::read_full(STDIN_FILENO, &mut text);
     let mut out = [0u8; 11286];
-    let size = writing::respond(&text[..got], &mut out);
+    let size = response::respond(&text[..got], &mut out);
     io::write_all(STDOUT_FILENO, &out[..size]);
 }

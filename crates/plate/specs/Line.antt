@@ -9,7 +9,7 @@ use Rattle.field.specs.Laws.{number-text-length}
 use Rattle.game.specs.Value.{Value, valueOf}
 use Rattle.plate.specs.Text.{entryText, dashText, everText, withEntry, lineText, valueEntry, dashEntry, headerLine, positionLine, positionLines, plateText}
 use Rattle.plate.specs.Written.{Written, written-none, written-sets, written-part}
-use Rattle.choice.specs.declared.summary.Summary.{Summary}
+use Rattle.summary.specs.declared.Summary.{Summary}
 use Rattle.plate.specs.declared.Entry.{Entry}
 use Rattle.plate.specs.declared.Entry.the-variants.{Number, Dash, Ever, Bad}
 

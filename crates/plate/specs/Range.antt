@@ -1,7 +1,7 @@
 -- What a plate can hold: the numbers of a header and three columns within the limits of the form (refusal 11).
 use Prim.Native.Nat.{ℕ, _≤_, _<_}
 use Rattle.game.specs.Value.{Value, fin, ever, valueOf}
-use Rattle.choice.specs.declared.summary.Summary.{Summary}
+use Rattle.summary.specs.declared.Summary.{Summary}
 
 -- a finite value is below the bound
 unfoldable pub Below : ℕ → Value → Type 0

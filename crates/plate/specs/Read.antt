@@ -5,7 +5,7 @@ use mathlib.Core.Path.{_≡_}
 use mathlib.Core.List.{List}
 use Rattle.game.specs.Value.{Value, fin, ever, numberOf}
 use Rattle.game.specs.Rows.{Filled}
-use Rattle.choice.specs.declared.summary.Summary.{Summary}
+use Rattle.summary.specs.declared.Summary.{Summary}
 use Rattle.plate.specs.Form.{secondAt, thirdAt, fourthAt}
 use Rattle.plate.specs.declared.Entry.{Entry}
 use Rattle.plate.specs.declared.Entry.the-variants.{Number, Dash, Ever, Bad}

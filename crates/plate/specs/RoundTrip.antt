@@ -11,7 +11,7 @@ use lib.ListN.{length, take, drop, length-append}
 use lib.Seq.{take-add, take-all}
 use Rattle.game.specs.Value.{Value, numberOf, valueOf}
 use Rattle.game.specs.ValueLaws.{number-of-value, value-of-number}
-use Rattle.choice.specs.declared.summary.Summary.{Summary}
+use Rattle.summary.specs.declared.Summary.{Summary}
 use Rattle.plate.specs.Text.{valueEntry, dashEntry, headerLine, positionLine, positionLines, plateText}
 use Rattle.plate.specs.Line.{header-line-length, lines-length}
 use Rattle.plate.specs.Form.{letterAt, firstAt, secondAt, thirdAt, fourthAt, endAt, NumberBelow, DashOrBelow, EverOrBelow, LineForm, OfForm}

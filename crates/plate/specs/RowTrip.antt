@@ -7,8 +7,8 @@ use mathlib.Core.List.{List, _++_}
 use Rattle.game.specs.Value.{Value, numberOf, valueOf}
 use Rattle.game.specs.ValueLaws.{Fits, value-of-number}
 use Rattle.game.specs.Rows.{RowIs}
-use Rattle.choice.specs.Summarize.{rowValue}
-use Rattle.choice.specs.declared.summary.Summary.{Summary}
+use Rattle.summary.specs.Summarize.{rowValue}
+use Rattle.summary.specs.declared.Summary.{Summary}
 use Rattle.plate.specs.Text.{headerLine, positionLines, plateText}
 use Rattle.plate.specs.Form.{OfForm}
 use Rattle.plate.specs.Read.{headerIn, valueIn, choiceIn, stepIn, RowsRead}

@@ -11,7 +11,7 @@ use Rattle.field.specs.declared.Field.the-variants.{Number as Digits, Bad as Wr
 use Rattle.game.specs.Value.{Value, fin, ever, valueOf}
 use Rattle.plate.specs.declared.Entry.{Entry}
 use Rattle.plate.specs.declared.Entry.the-variants.{Number, Dash, Ever, Bad}
-use Rattle.choice.specs.declared.summary.Summary.{Summary}
+use Rattle.summary.specs.declared.Summary.{Summary}
 
 -- "`ever` and `-` are right-justified too"
 unfoldable pub dashText : List ℕ

@@ -8,9 +8,9 @@ ghost use Rattle.field.specs.Text.{five};
 ghost use Rattle.plate.specs.Text.{entryAt, sameText};
 ghost use Rattle.plate.specs.Formed.{numberIs, numberBelow, dashOrBelow, everOrBelow, framed, headerGood, positionGood, firstBad, formOf};
 ghost use Rattle.plate.specs.Read.{entryNumber, RowsRead};
-use choice::summary::Summary;
 use field::Field;
 use round::NONE;
+use summary::Summary;
 
 // The bytes of a line.
 pub const LINE: usize = 22;

@@ -5,12 +5,12 @@ ghost use Prim.Native.Nat.{_+_, _*_, _≤_, _<_};
 ghost use lib.ListN.{length, drop};
 ghost use lib.Seq.{sets};
 ghost use Rattle.game.specs.Value.{valueOf};
-ghost use Rattle.choice.specs.Summarize.{rowValue};
+ghost use Rattle.summary.specs.Summarize.{rowValue};
 ghost use Rattle.plate.specs.Text.{withEntry, lineText, valueEntry, dashEntry, positionLine, positionLines, plateText};
-use choice::summary::Summary;
 use plate::Entry;
 use plate::LINE;
 use round::NONE;
+use summary::Summary;
 
 // A plate of n positions into `out`; what lies past its last line stays. The bounds keep the rows and the buffer long enough,
 // and the count within its field.

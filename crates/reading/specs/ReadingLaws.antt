@@ -11,7 +11,7 @@ use Rattle.chart.specs.Accepted.{accepted-size, accepted-chartable}
 use Rattle.chart.specs.declared.Chart.{Chart}
 use Rattle.refusal.specs.declared.Refusal.{Refusal}
 use Rattle.chart.specs.declared.Examination.the-variants.{Accepted, Refused}
-use Rattle.choice.specs.declared.summary.Summary.{Summary}
+use Rattle.summary.specs.declared.Summary.{Summary}
 use Rattle.plate.specs.Formed.{formOf}
 use Rattle.plate.specs.Read.{RowsRead}
 use Rattle.reading.specs.Reading.{answerTo, readBy, reading, ReadingIs}

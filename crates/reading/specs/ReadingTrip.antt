@@ -14,8 +14,8 @@ use Rattle.chart.specs.Accepted.{accepted-size, accepted-chartable}
 use Rattle.chart.specs.declared.Chart.{Chart}
 use Rattle.chart.specs.declared.Examination.{Examination}
 use Rattle.chart.specs.declared.Examination.the-variants.{Accepted, Refused}
-use Rattle.choice.specs.Summarize.{rowValue}
-use Rattle.choice.specs.declared.summary.Summary.{Summary}
+use Rattle.summary.specs.Summarize.{rowValue}
+use Rattle.summary.specs.declared.Summary.{Summary}
 use Rattle.plate.specs.Text.{plateText}
 use Rattle.plate.specs.Form.{OfForm, BadAt}
 use Rattle.plate.specs.Formed.{formOf}

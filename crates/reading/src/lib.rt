@@ -2,11 +2,11 @@
 ghost use Rattle.reading.specs.Reading.{ReadingIs};
 use chart::Examination;
 use chart::examine;
-use choice::summary::Summary;
 use plate::Form;
 use plate::examine_plate;
 use plate::read_rows;
 use refusal::Refusal;
+use summary::Summary;
 
 // What Reading answers: the first line's numbers, the chart's refusal, 10: a row shorter than the count of positions, or 11 at a
 // line.

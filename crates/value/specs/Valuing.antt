@@ -18,7 +18,7 @@ use Rattle.chart.specs.Examined.{examined}
 use Rattle.chart.specs.declared.Examination.{Examination}
 use Rattle.chart.specs.declared.Examination.the-variants.{Accepted, Refused}
 use Rattle.round.specs.Held.{Decoded}
-use Rattle.choice.specs.declared.summary.Summary.{Summary}
+use Rattle.summary.specs.declared.Summary.{Summary}
 use Rattle.value.specs.declared.valuing.Valued.{Valued}
 use Rattle.value.specs.declared.valuing.Valued.the-variants.{Rounds, Refused as Turned, Short}
 

@@ -27,11 +27,11 @@ use Rattle.round.specs.Held.{Holds, Decoded}
 use Rattle.solver.specs.Solving.{Solved}
 use Rattle.round.specs.HeldLaws.{decoded-within}
 use Rattle.choice.specs.Choose.{ValuesAre, Chosen}
-use Rattle.choice.specs.Summarize.{rowValue, PairsFit, SummaryOf}
+use Rattle.summary.specs.Summarize.{rowValue, PairsFit, SummaryOf}
 use Rattle.round.specs.RowLaws.{some-same}
 use Rattle.value.specs.Valuing.{PlateRows, PlateSummary, Decodable, RowsValued, valued, valuedBy, ValuedIs}
 use Rattle.value.specs.declared.valuing.Valued.the-variants.{Rounds, Refused as Turned, Short}
-use Rattle.choice.specs.declared.summary.Summary.{Summary}
+use Rattle.summary.specs.declared.Summary.{Summary}
 
 -- Rows that agree below n have the same summary
 

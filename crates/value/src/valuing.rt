@@ -4,12 +4,12 @@ ghost use lib.ListN.{length};
 ghost use Rattle.round.specs.Round.{Within};
 ghost use Rattle.value.specs.Valuing.{Decodable, RowsValued, ValuedIs};
 use chart::Examination;
-use choice::choose::choose;
-use choice::summary::Summary;
-use choice::summary::summarize;
+use choice::choose;
 use decode::load;
 use refusal::Refusal;
 use solver::solve::solve;
+use summary::Summary;
+use summary::summarize;
 
 // What Valuing answers: the count of rounds, the chart's refusal, or 10: a row shorter than the count of positions.
 pub enum Valued {

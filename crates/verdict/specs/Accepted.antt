@@ -7,7 +7,7 @@ use Rattle.game.specs.Arena.{Arena, WellFormed, size}
 use Rattle.game.specs.Table.{roundStep}
 use Rattle.game.specs.Certified.{certificate-is-legal, certificate-gives-values, certificate-gives-worths}
 use Rattle.game.specs.RoundValues.{optimal-choices-with-round-steps-have-a-certificate}
-use Rattle.choice.specs.declared.summary.Summary.{Summary}
+use Rattle.summary.specs.declared.Summary.{Summary}
 use Rattle.verdict.specs.Verdict.{HeaderIs, RightPlate, verdictOf}
 use Rattle.verdict.specs.Exact.{sound-exactly}
 use Rattle.verdict.specs.declared.rows.Verdict.the-variants.{Sound}

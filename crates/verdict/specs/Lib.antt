@@ -1,5 +1,4 @@
 pub mod Verdict
-pub mod Position
 pub mod Sheet
 pub mod RowsChecked
 pub mod VerdictLaws

@@ -10,7 +10,7 @@ use borrow.Author.Tests.{eq-eqb, ne-eqb, lt-ltb, le-ltb, le-leb, lt-leb}
 use Rattle.game.specs.Value.{Value, fin, ever, leV, ltV, eqV, _⊕_, valueOf}
 use Rattle.game.specs.ValueLaws.{Fits, lessOne, at-least-less-one, smaller, leV-sound, ltV-sound, number-of-value}
 use Rattle.choice.specs.ChooseLaws.{less-numbers}
-use Rattle.verdict.specs.Position.{lessOneNumber}
+use Rattle.conditions.specs.Position.{lessOneNumber}
 
 -- two tests that pass together are the same
 same-test : (p q : Bool) → T p ↔ T q → p ≡ q

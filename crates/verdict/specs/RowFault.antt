@@ -17,12 +17,12 @@ use Rattle.game.specs.Table.{someMove, everyMove, meantFrom, disturbanceFrom}
 use Rattle.game.specs.Fault.{earlier, unsafeZero, dashed, legalAs, holdsAs, ruinedAs, ruined, faultAt}
 use Rattle.game.specs.Rows.{RowIs, ownerNumber}
 use Rattle.round.specs.Held.{Decoded}
-use Rattle.choice.specs.SummarizeLaws.{ever-number, same-values}
-use Rattle.verdict.specs.Position.{afterMoves, beforeMoves}
+use Rattle.summary.specs.SummarizeLaws.{ever-number, same-values}
+use Rattle.conditions.specs.Position.{afterMoves, beforeMoves}
 use Rattle.verdict.specs.Sheet.{Formed, Sheet, choiceAt, rowFault, seenBelow, someShows, stepAt, valueAt}
 use Rattle.verdict.specs.Numbers.{finite-number, smaller-by-one}
 use Rattle.verdict.specs.Shown.{Kind, moveShows, flag-is}
-use Rattle.verdict.specs.declared.position.Seen.{Seen}
+use Rattle.conditions.specs.declared.Seen.{Seen}
 
 -- Searches over moves
 

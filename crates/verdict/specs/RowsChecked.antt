@@ -4,7 +4,7 @@ use mathlib.Core.Path.{_≡_}
 use Rattle.game.specs.Arena.{Arena, positionAt}
 use Rattle.game.specs.Rows.{RowIs}
 use Rattle.round.specs.Held.{Decoded}
-use Rattle.choice.specs.declared.summary.Summary.{Summary}
+use Rattle.summary.specs.declared.Summary.{Summary}
 use Rattle.verdict.specs.Verdict.{verdictOf}
 use Rattle.verdict.specs.Sheet.{Sheet, choiceAt, stepAt, valueAt}
 use Rattle.verdict.specs.declared.rows.Verdict.{Verdict}

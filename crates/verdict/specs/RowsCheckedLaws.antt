@@ -11,9 +11,9 @@ use Rattle.game.specs.Arena.{Arena, positionAt}
 use Rattle.game.specs.Fault.{faultAt}
 use Rattle.game.specs.Rows.{RowIs}
 use Rattle.round.specs.Held.{Decoded}
-use Rattle.choice.specs.Summarize.{PairsFit}
-use Rattle.choice.specs.declared.summary.Summary.{Summary}
-use Rattle.verdict.specs.Position.{beforeMoves, isUnsafe}
+use Rattle.summary.specs.Summarize.{PairsFit}
+use Rattle.summary.specs.declared.Summary.{Summary}
+use Rattle.conditions.specs.Position.{beforeMoves, isUnsafe}
 use Rattle.verdict.specs.Sheet.{Formed, Sheet, choiceAt, lineAt, rowFault, stepAt, valueAt}
 use Rattle.verdict.specs.Verdict.{firstFrom, headerVerdict, verdictOf}
 use Rattle.verdict.specs.VerdictLaws.{fault-then-fault, none-then-end, same-first}

@@ -11,7 +11,7 @@ use Rattle.game.specs.Table.{someMove, everyMove, meantFrom, disturbanceFrom}
 use Rattle.game.specs.Fault.{earlier, unsafeZero, dashed, legalAs, holdsAs, ruinedAs, ruined, faultAt}
 use Rattle.game.specs.Summary.{highest}
 use Rattle.value.specs.ValuingLaws.{pairs-same, highest-same, evers-same}
-use Rattle.choice.specs.declared.summary.Summary.{Summary}
+use Rattle.summary.specs.declared.Summary.{Summary}
 use Rattle.plate.specs.RowTrip.{Agree}
 use Rattle.verdict.specs.Verdict.{headerRight, headerVerdict, verdictOf}
 use Rattle.verdict.specs.VerdictLaws.{same-first}

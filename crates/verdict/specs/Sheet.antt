@@ -9,11 +9,11 @@ use lib.ListN.{length, getD}
 use lib.Dec.{eqb}
 use Rattle.game.specs.Value.{Value}
 use Rattle.round.specs.RowLaws.{found, numberAt}
-use Rattle.choice.specs.Summarize.{rowValue}
-use Rattle.verdict.specs.Position.{afterMoves, beforeMoves, shown}
-use Rattle.verdict.specs.declared.position.Line.{Line}
-use Rattle.verdict.specs.declared.position.Target.{Target}
-use Rattle.verdict.specs.declared.position.Seen.{Seen}
+use Rattle.summary.specs.Summarize.{rowValue}
+use Rattle.conditions.specs.Position.{afterMoves, beforeMoves, shown}
+use Rattle.conditions.specs.declared.Line.{Line}
+use Rattle.conditions.specs.declared.Target.{Target}
+use Rattle.conditions.specs.declared.Seen.{Seen}
 
 -- the chart's rows and the plate's
 pub record Sheet : Type 0 where

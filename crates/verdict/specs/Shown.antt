@@ -17,12 +17,12 @@ use Rattle.game.specs.Rows.{ownerNumber}
 use Rattle.game.specs.Members.{at-member}
 use Rattle.round.specs.Held.{Decoded}
 use Rattle.round.specs.HeldLaws.{lines-of, to-inside}
-use Rattle.choice.specs.SummarizeLaws.{same-values}
-use Rattle.verdict.specs.Position.{isController, shown, shownMeant, shownDisturbance, earlierTarget}
+use Rattle.summary.specs.SummarizeLaws.{same-values}
+use Rattle.conditions.specs.Position.{isController, shown, shownMeant, shownDisturbance, earlierTarget}
 use Rattle.verdict.specs.Sheet.{Formed, Sheet, choiceAt, lineAt, someShows, stepAt, targetAt, valueAt}
 use Rattle.verdict.specs.Numbers.{below-less-one, below-number, finite-number, smaller-number}
-use Rattle.verdict.specs.declared.position.Target.{Target}
-use Rattle.verdict.specs.declared.position.Seen.{Seen}
+use Rattle.conditions.specs.declared.Target.{Target}
+use Rattle.conditions.specs.declared.Seen.{Seen}
 
 -- what a move to w shows at v, in the arena's terms
 module _ (a : Arena) (value choice step : ℕ → Value) (o : Owner) (v : ℕ) where

@@ -12,7 +12,7 @@ use Rattle.game.specs.Fault.{faultAt}
 use Rattle.game.specs.FirstFault.{FirstFault}
 use Rattle.game.specs.Optimal.{RightValues, WorthsAre}
 use Rattle.game.specs.Summary.{pairCount, highest, everCount}
-use Rattle.choice.specs.declared.summary.Summary.{Summary}
+use Rattle.summary.specs.declared.Summary.{Summary}
 use Rattle.verdict.specs.declared.rows.Verdict.{Verdict}
 use Rattle.verdict.specs.declared.rows.Verdict.the-variants.{Sound, Fault}
 

@@ -12,11 +12,11 @@ use lib.Dec.{eqb}
 use borrow.Author.Tests.{eq-eqb, ne-eqb}
 use Rattle.game.specs.Summary.{someBelow}
 use Rattle.round.specs.RowLaws.{found, numberAt, some-next}
-use Rattle.verdict.specs.Position.{afterMoves, beforeMoves, isController, joined, nothing, shown}
+use Rattle.conditions.specs.Position.{afterMoves, beforeMoves, isController, joined, nothing, shown}
 use Rattle.verdict.specs.Sheet.{Ascending, Sheet, lineAt, rowFault, seenBelow, targetAt}
-use Rattle.verdict.specs.declared.position.Line.{Line}
-use Rattle.verdict.specs.declared.position.Target.{Target}
-use Rattle.verdict.specs.declared.position.Seen.{Seen}
+use Rattle.conditions.specs.declared.Line.{Line}
+use Rattle.conditions.specs.declared.Target.{Target}
+use Rattle.conditions.specs.declared.Seen.{Seen}
 
 -- Searching below a number, and past it
 

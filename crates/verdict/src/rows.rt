@@ -3,19 +3,19 @@ ghost use mathlib.Core.Path.{_≡_};
 ghost use Prim.Native.Nat.{_≤_, _<_};
 ghost use lib.ListN.{length, getD};
 ghost use Rattle.round.specs.Round.{Within};
-ghost use Rattle.choice.specs.Summarize.{PairsFit, rowValue};
+ghost use Rattle.summary.specs.Summarize.{PairsFit, rowValue};
 ghost use Rattle.value.specs.Valuing.{Decodable};
 ghost use Rattle.verdict.specs.Sheet.{Ascending, Formed, Sized, lineOf, rowFault, sheet, targetOf};
 ghost use Rattle.verdict.specs.Verdict.{firstFrom, headerVerdict};
 ghost use Rattle.verdict.specs.RowsChecked.{RowsChecked};
-use crate::position::Line;
-use crate::position::Seen;
-use crate::position::Target;
-use crate::position::after_moves;
-use crate::position::before_moves;
-use crate::position::see;
-use choice::summary::Summary;
-use choice::summary::summarize;
+use conditions::Line;
+use conditions::Seen;
+use conditions::Target;
+use conditions::after_moves;
+use conditions::before_moves;
+use conditions::see;
+use summary::Summary;
+use summary::summarize;
 
 // No fault, or the first one's position and condition.
 pub enum Verdict {

@@ -1,4 +1,2 @@
 pub mod Weighing
-pub mod Weigh
-pub mod WeighLaws
 pub mod WeighingLaws

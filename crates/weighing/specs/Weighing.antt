@@ -21,7 +21,7 @@ use Rattle.chart.specs.declared.Examination.{Examination}
 use Rattle.chart.specs.declared.Examination.the-variants.{Accepted, Refused}
 use Rattle.round.specs.RowLaws.{Stays}
 use Rattle.round.specs.Held.{Decoded}
-use Rattle.choice.specs.Summarize.{rowValue}
+use Rattle.summary.specs.Summarize.{rowValue}
 use Rattle.weighing.specs.declared.Weighed.{Weighed}
 use Rattle.weighing.specs.declared.Weighed.the-variants.{Done, Refused as Turned, Short, Choice}
 

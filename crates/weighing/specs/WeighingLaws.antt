@@ -35,11 +35,11 @@ use Rattle.round.specs.Round.{bit, Within}
 use Rattle.round.specs.Held.{Holds, Decoded}
 use Rattle.solver.specs.Solving.{Solved}
 use Rattle.round.specs.HeldLaws.{bit-one, from-inside, to-inside, lines-of}
-use Rattle.choice.specs.Summarize.{rowValue}
-use Rattle.choice.specs.SummarizeLaws.{same-values, ever-number}
+use Rattle.summary.specs.Summarize.{rowValue}
+use Rattle.summary.specs.SummarizeLaws.{same-values, ever-number}
 use Rattle.value.specs.ValuingLaws.{round-value-fits}
-use Rattle.weighing.specs.Weigh.{isChosen, isLegal, moveStays, passing, Copied}
-use Rattle.weighing.specs.WeighLaws.{passing-length}
+use Rattle.restriction.specs.Restriction.{isChosen, isLegal, moveStays, passing, Copied}
+use Rattle.restriction.specs.RestrictionLaws.{passing-length}
 use Rattle.weighing.specs.Weighing.{legalRow, WorthRow, RestrictedSolved, RowsWeighed, weighed, weighedBy, WeighedIs}
 use Rattle.weighing.specs.declared.Weighed.the-variants.{Done, Refused as Turned, Short, Choice}
 

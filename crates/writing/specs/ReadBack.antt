@@ -25,7 +25,7 @@ use Rattle.chart.specs.Accepted.{accepted-size, accepted-chartable}
 use Rattle.chart.specs.declared.Chart.{Chart}
 use Rattle.chart.specs.declared.Examination.the-variants.{Accepted}
 use Rattle.value.specs.Valuing.{PlateRows}
-use Rattle.choice.specs.declared.summary.Summary.{Summary}
+use Rattle.summary.specs.declared.Summary.{Summary}
 use Rattle.plate.specs.Form.{OfForm}
 use Rattle.plate.specs.Formed.{formOf}
 use Rattle.plate.specs.Exact.{form-exact}

@@ -17,7 +17,7 @@ use Rattle.chart.specs.Examined.{examined}
 use Rattle.chart.specs.declared.Examination.{Examination}
 use Rattle.chart.specs.declared.Examination.the-variants.{Accepted, Refused}
 use Rattle.round.specs.Held.{Decoded}
-use Rattle.choice.specs.declared.summary.Summary.{Summary}
+use Rattle.summary.specs.declared.Summary.{Summary}
 use Rattle.plate.specs.Text.{plateText}
 use Rattle.writing.specs.declared.Written.{Written}
 use Rattle.writing.specs.declared.Written.the-variants.{Length, Refused as Turned, Short}

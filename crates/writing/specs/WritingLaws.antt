@@ -4,7 +4,7 @@ use native.Mathlib.Omega.{arith}
 use mathlib.Core.Path.{_≡_, refl, ap, _∙_}
 use mathlib.Core.Bool.{Bool, true, false, cond}
 use mathlib.Core.List.{List, _++_}
-use lib.ListN.{length, drop}
+use lib.ListN.{length, drop, length-append}
 use lib.Dec.{leb}
 use Rattle.game.specs.Arena.{Arena, size, positionAt}
 use Rattle.game.specs.Table.{roundValue, roundStep}
@@ -17,16 +17,21 @@ use Rattle.chart.specs.declared.Chart.{Chart}
 use Rattle.refusal.specs.declared.Refusal.{Refusal}
 use Rattle.chart.specs.declared.Examination.the-variants.{Accepted, Refused}
 use Rattle.round.specs.Held.{Decoded}
-use Rattle.choice.specs.Summarize.{rowValue}
+use Rattle.summary.specs.Summarize.{rowValue}
 use Rattle.value.specs.Valuing.{PlateRows, PlateSummary, RowsValued}
 use Rattle.value.specs.ValuingLaws.{round-value-fits, round-step-fits}
-use Rattle.choice.specs.declared.summary.Summary.{Summary}
+use Rattle.summary.specs.declared.Summary.{Summary}
 use Rattle.plate.specs.Text.{plateText}
+use Rattle.plate.specs.Line.{header-line-length, lines-length}
 use Rattle.plate.specs.RangeLaws.{below-fits}
 use Rattle.plate.specs.RowTrip.{plate-same, row-column}
 use Rattle.writing.specs.Writing.{summaryOf, plateOf, PlateWritten, written, writtenBy, WrittenIs}
 use Rattle.writing.specs.ReadBack.{arena-in-range}
 use Rattle.writing.specs.declared.Written.the-variants.{Length, Refused as Turned, Short}
+
+pub plate-length : (a : Arena) → length (plateOf a) ≡ (size a + 1) * 22
+unfolding plateOf plateText
+plate-length a = simp (length-append, header-line-length, lines-length) (omega arith)
 
 -- the counted numbers are the arena's
 summary-is : (a : Arena) (n : ℕ) (s : Summary) → size a ≡ n → PlateSummary a n s → s ≡ summaryOf a

@@ -1,16 +1,11 @@
 // Writing: a chart into its plate.
 ghost use Prim.Native.Nat.{_+_, _*_, _<_, _≤_};
-ghost use mathlib.Core.Path.{_≡_};
-ghost use mathlib.Core.List.{_++_};
-ghost use lib.ListN.{length, drop};
-ghost use Rattle.chart.specs.Meaning.{lineText};
+ghost use lib.ListN.{length};
 ghost use Rattle.round.specs.Round.{Within};
 ghost use Rattle.value.specs.Valuing.{Decodable};
-ghost use Rattle.writing.specs.Response.{Responded};
 ghost use Rattle.writing.specs.Writing.{PlateWritten, WrittenIs};
 use chart::Examination;
 use decode::load;
-use field::write;
 use plate::LINE;
 use plate_lines::write_rows;
 use refusal::Refusal;
@@ -85,30 +80,4 @@ fn write_valued(
         &mut steps,
     );
     write_rows(n, s, &values, &choices, &steps, out);
-}
-
-// The program's answer into a buffer with room for every plate: the plate, or the refusal's line. Answers its length.
-pub fn respond(text: &[u8], out: &mut [u8]) -> usize
-    requires { ⌜ 11286 ≤ length (now out) ⌝ }
-    ensures { λ r. ⌜ Responded (now (text .entry)) (now (out .entry)) (now (out .exit)) r ⌝ }
-{
-    match write_plate(text, out) {
-        Written::Length(k) => k,
-        Written::Refused(r) => {
-            write_refusal(r.number(), (r.line() % 100000) as u32, out);
-            12
-        }
-        Written::Short => 0,
-    }
-}
-
-// The line of a refusal into the first 12 bytes of the buffer; the others stay.
-fn write_refusal(number: u32, line: u32, out: &mut [u8])
-    requires { ⌜ 12 ≤ length (now out) ⌝ }
-    ensures { λ _. ⌜ now (out .exit) ≡ lineText 82 number line ++ drop 12 (now (out .entry)) ⌝ }
-{
-    out[0] = b'R';
-    write(number, out, 1);
-    write(line, out, 6);
-    out[11] = b'\n';
 }

@@ -40,7 +40,7 @@ fn show_case(input: &[u8], c: Case) -> usize
 // The answer to a chart, under its name.
 fn show(name: &[u8], text: &[u8]) {
     let mut out = [0u8; 11286];
-    let size = writing::respond(text, &mut out);
+    let size = response::respond(text, &mut out);
     io::write_all(1, name);
     io::write_all(1, b"\n");
     if size <= out.len() {

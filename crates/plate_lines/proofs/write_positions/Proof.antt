@@ -5,7 +5,7 @@ use Rattle.plate.specs.Line.{lines-more}
 use lib.ListN.{length, drop, length-take, length-drop}
 use mathlib.Core.Path.{_≡_, subst}
 use Rattle.plate.specs.Written.{Written, written-none, written-length}
-use Rattle.choice.specs.Summarize.{rowValue}
+use Rattle.summary.specs.Summarize.{rowValue}
 use Rattle.plate.specs.Text.{positionLines}
 use Prim.Native.Nat.{_*_}
 use Prim.Native.Nat.{ℕ, _-_, _≤_}

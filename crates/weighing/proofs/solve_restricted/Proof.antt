@@ -10,7 +10,7 @@ use Rattle.weighing.proofs.solve_restricted.Tie as tie
 use Rattle.weighing.proofs.solve_restricted.Reads as reads
 use Rattle.weighing.proofs.solve_restricted.Lts as lts
 use Rattle.solver.proofs.solve.solve.Reads as solve-reads
-use Rattle.weighing.proofs.restrict.Reads as restrict-reads
+use Rattle.restriction.proofs.restrict.Reads as restrict-reads
 
 slice-aggregate-restrict : tie.Need-slice-aggregate-restrict
 slice-aggregate-restrict c = search needs

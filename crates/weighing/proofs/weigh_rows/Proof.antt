@@ -11,8 +11,8 @@ use Rattle.weighing.proofs.weigh_rows.Statement.{statement}
 use Rattle.weighing.proofs.weigh_rows.Tie as tie
 use Rattle.weighing.proofs.weigh_rows.Reads as reads
 use Rattle.weighing.proofs.weigh_rows.Lts as lts
-use Rattle.weighing.proofs.all_legal.Reads as all-legal-reads
-use Rattle.weighing.proofs.flag_chosen.Reads as flag-chosen-reads
+use Rattle.restriction.proofs.all_legal.Reads as all-legal-reads
+use Rattle.restriction.proofs.flag_chosen.Reads as flag-chosen-reads
 use Rattle.weighing.proofs.solve_restricted.Reads as solve-restricted-reads
 
 slice-aggregate-flag-chosen : tie.Need-slice-aggregate-flag-chosen

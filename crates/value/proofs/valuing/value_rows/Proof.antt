@@ -10,9 +10,9 @@ use Rattle.value.proofs.valuing.value_rows.Statement.{statement}
 use Rattle.value.proofs.valuing.value_rows.Tie as tie
 use Rattle.value.proofs.valuing.value_rows.Reads as reads
 use Rattle.value.proofs.valuing.value_rows.Lts as lts
-use Rattle.choice.proofs.choose.choose.Reads as choose-reads
+use Rattle.choice.proofs.choose.Reads as choose-reads
 use Rattle.solver.proofs.solve.solve.Reads as solve-reads
-use Rattle.choice.proofs.summary.summarize.Reads as summarize-reads
+use Rattle.summary.proofs.summarize.Reads as summarize-reads
 
 solve-requires : tie.Need-solve-requires
 solve-requires c κs = search needs

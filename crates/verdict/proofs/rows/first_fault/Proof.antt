@@ -7,19 +7,19 @@ use borrow.Author.Needs.{needs}
 use mathlib.Core.Path.{_≡_, refl, sym, ap, _∙_}
 use mathlib.Core.Logic.{⊎-elim, inl, inr}
 use mathlib.Core.Bool.{Bool, true, false, not, _&&_, true≢false}
-use Rattle.verdict.specs.Position.{afterMoves, beforeMoves, isController}
+use Rattle.conditions.specs.Position.{afterMoves, beforeMoves, isController}
 use Rattle.verdict.specs.Sheet.{lineAt, sheet}
-use Rattle.verdict.specs.declared.position.Line.{Line}
+use Rattle.conditions.specs.declared.Line.{Line}
 use Rattle.verdict.specs.VerdictLaws.{first-fault, no-fault}
 use Rattle.verdict.specs.Walk.{Walked, Walking, walk-begins, position-begins, early-fault, move-seen, low-fault, moves-seen, position-walked}
 use Rattle.verdict.proofs.rows.first_fault.Statement.{statement}
 use Rattle.verdict.proofs.rows.first_fault.Tie as tie
 use Rattle.verdict.proofs.rows.first_fault.Reads as reads
 use Rattle.verdict.proofs.rows.first_fault.Lts as lts
-use Rattle.verdict.proofs.position.Seen.none.Reads as none-reads
-use Rattle.verdict.proofs.position.after_moves.Reads as after-moves-reads
-use Rattle.verdict.proofs.position.before_moves.Reads as before-moves-reads
-use Rattle.verdict.proofs.position.see.Reads as see-reads
+use Rattle.conditions.proofs.Seen.none.Reads as none-reads
+use Rattle.conditions.proofs.after_moves.Reads as after-moves-reads
+use Rattle.conditions.proofs.before_moves.Reads as before-moves-reads
+use Rattle.conditions.proofs.see.Reads as see-reads
 use Rattle.verdict.proofs.rows.line_at.Reads as line-at-reads
 use Rattle.verdict.proofs.rows.target_at.Reads as target-at-reads
 

@@ -5,7 +5,7 @@ use Rattle.verdict.proofs.rows.header_fault.Statement.{statement}
 use Rattle.verdict.proofs.rows.header_fault.Tie as tie
 use Rattle.verdict.proofs.rows.header_fault.Reads as reads
 use Rattle.verdict.proofs.rows.header_fault.Lts as lts
-use Rattle.choice.proofs.summary.summarize.Reads as summarize-reads
+use Rattle.summary.proofs.summarize.Reads as summarize-reads
 
 summarize-requires : tie.Need-summarize-requires
 summarize-requires c κs = search needs

@@ -1,0 +1,68 @@
+-- `stays` meets its contract: each answer by the tests that led to it.
+use Prim.Native.Nat.{ℕ, _+_, _-_, _≤_, _<_}
+use native.Mathlib.Omega.{arith}
+use borrow.Author.Needs.{needs}
+use lib.ListN.{length, getD, set, length-set}
+use borrow.Author.Needs.{needs}
+use Rattle.restriction.specs.Restriction.{moveStays}
+use Rattle.field.proofs.Cases.{cases}
+use Rattle.restriction.proofs.stays.Statement.{statement}
+use Rattle.restriction.proofs.stays.Tie as tie
+use Rattle.restriction.proofs.stays.Reads as reads
+use Rattle.restriction.proofs.stays.Lts as lts
+
+mul-from : tie.Need-mul-from
+mul-from c = search needs
+
+shared-slice-read-from : tie.Need-shared-slice-read-from
+shared-slice-read-from c = search needs
+
+cast-from : tie.Need-cast-from
+cast-from c = search needs
+
+shared-slice-read-if1 : tie.Need-shared-slice-read-if1
+shared-slice-read-if1 c = search needs
+
+returns : tie.Need-returns
+unfolding moveStays
+returns c = search cases
+
+shared-slice-read-if2 : tie.Need-shared-slice-read-if2
+shared-slice-read-if2 c = search needs
+
+returns-2 : tie.Need-returns-2
+unfolding moveStays
+returns-2 c = search cases
+
+mul-result : tie.Need-mul-result
+mul-result c = search needs
+
+shared-slice-read-result : tie.Need-shared-slice-read-result
+shared-slice-read-result c = search needs
+
+mul-result-2 : tie.Need-mul-result-2
+mul-result-2 c = search needs
+
+shared-slice-read-result-2 : tie.Need-shared-slice-read-result-2
+shared-slice-read-result-2 c = search needs
+
+returns-3 : tie.Need-returns-3
+unfolding moveStays
+returns-3 c = search cases
+
+pub stays-spec : {M : Type 1} → statement M
+stays-spec =
+    tie.close
+    (tie.spec
+    mul-from
+    shared-slice-read-from
+    cast-from
+    shared-slice-read-if1
+    returns
+    shared-slice-read-if2
+    returns-2
+    mul-result
+    shared-slice-read-result
+    mul-result-2
+    shared-slice-read-result-2
+    returns-3)

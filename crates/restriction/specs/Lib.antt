@@ -1,0 +1,2 @@
+pub mod Restriction
+pub mod RestrictionLaws

@@ -1,0 +1,2 @@
+pub mod Summarize
+pub mod SummarizeLaws
