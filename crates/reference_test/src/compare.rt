@@ -171,15 +171,10 @@ fn compare_values(chart: &Chart, table: &Table, text: &[u8], tally: &mut Tally) 
     let mut choices = [4660u16; 512];
     let mut steps = [4660u16; 512];
     let rounds = rounds_of(value_chart(text, &mut values, &mut choices, &mut steps));
+    let same = same_rows(table, n, &values, &choices, &steps);
     expect(
-        rounds == get(table, HEADER, 0),
-        b"valuing's rounds",
-        text,
-        tally,
-    );
-    expect(
-        same_rows(table, n, &values, &choices, &steps),
-        b"valuing's rows",
+        same & (rounds == get(table, HEADER, 0)),
+        b"valuing",
         text,
         tally,
     );
@@ -200,8 +195,8 @@ fn compare_plate(chart: &Chart, table: &Table, text: &[u8], tally: &mut Tally) {
     let mut written = [b'#'; 65536];
     let size = write_plate(&mut page, table, positions(chart));
     let answer = length_of(writing::write_plate(text, &mut written));
-    expect(answer == size, b"writing's length", text, tally);
-    expect(same_pages(&page, &written), b"writing's bytes", text, tally);
+    let same = same_pages(&page, &written);
+    expect(same & (answer == size), b"writing", text, tally);
     compare_reading(chart, table, text, part(&written, size), tally);
 }
 
@@ -220,18 +215,8 @@ fn compare_reading(chart: &Chart, table: &Table, text: &[u8], plate: &[u8], tall
     let mut choices = [4660u16; 512];
     let mut steps = [4660u16; 512];
     let answer = read_plate(text, plate, &mut values, &mut choices, &mut steps);
-    expect(
-        same_header(table, answer),
-        b"reading's first line",
-        text,
-        tally,
-    );
-    expect(
-        same_rows(table, n, &values, &choices, &steps),
-        b"reading's rows",
-        text,
-        tally,
-    );
+    let same = same_rows(table, n, &values, &choices, &steps);
+    expect(same & same_header(table, answer), b"reading", text, tally);
 }
 
 fn same_header(table: &Table, answer: Reading) -> bool {
@@ -254,12 +239,7 @@ fn compare_check(chart: &Chart, table: &Table, text: &[u8], tally: &mut Tally) {
     let answer = audit::check(text, part(&page, size)).numbers();
     let fault = first_fault(chart, table);
     add(tally, ACCEPTED + fault.condition % 7, 1);
-    expect(
-        same_answer(answer, fault),
-        b"checking's answer",
-        text,
-        tally,
-    );
+    expect(same_answer(answer, fault), b"checking", text, tally);
 }
 
 // Accepted, or 14 with position and condition.
@@ -424,13 +404,8 @@ fn compare_worths(
     let done = is_done(weigh_chart(text, row, &mut worths));
     weigh_choices(chart, table);
     add(tally, CONTROLLERS, 1);
-    expect(done, b"weighing's answer", text, tally);
-    expect(
-        same_row(table, WORTH, positions(chart), &worths),
-        b"weighing's row",
-        text,
-        tally,
-    );
+    let same = same_row(table, WORTH, positions(chart), &worths);
+    expect(same & done, b"weighing", text, tally);
 }
 
 fn is_done(answer: Weighed) -> bool {

@@ -1,4 +1,4 @@
--- Copying the moves that stay goes move by move, and the copy is the restricted arena's; legal choices are found so too.
+-- Copying the moves that stay goes move by move: laws for the start, for a turn and for the end.
 use Prim.Native.Nat.{ℕ, zero, suc, _+_, _≤_, _<_}
 use native.Mathlib.Numerals.{add-one}
 use native.Mathlib.Decide.{ℕ-discrete}

@@ -1,5 +1,5 @@
 -- What a round's functions leave in their rows, as numbers. The laws that make tables of placements of them stand in
--- SolveLaws.
+-- HeldLaws.
 use Prim.Native.Nat.{ℕ, _≤_, _<_}
 use native.Mathlib.Omega.{arith}
 use mathlib.Core.Path.{_≡_, refl}
