@@ -88,12 +88,12 @@ typedef struct {
     uint16_t rounds;  /* how many different pairs of value and step */
     uint16_t highest; /* the highest finite value, DUSHEMQA_NONE if there is none */
     uint16_t evers;   /* how many positions read "ever" */
-} dushemqa_summary;
+} dushemqa_first_line;
 
 /* What Reading answers. */
 typedef struct {
     dushemqa_refusal refusal;
-    dushemqa_summary summary;
+    dushemqa_first_line first_line;
 } dushemqa_reading;
 
 /* What Comparing answers. */

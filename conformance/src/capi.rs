@@ -28,7 +28,7 @@ pub struct Written {
 
 #[repr(C)]
 #[derive(Clone, Copy, Debug, Default, PartialEq, Eq)]
-pub struct Summary {
+pub struct FirstLine {
     pub rounds: u16,
     pub highest: u16,
     pub evers: u16,
@@ -38,7 +38,7 @@ pub struct Summary {
 #[derive(Clone, Copy, Debug, Default, PartialEq, Eq)]
 pub struct Reading {
     pub refusal: Refusal,
-    pub summary: Summary,
+    pub first_line: FirstLine,
 }
 
 /// `agree` is C's `bool`. It is a byte here, so that a byte other than 0 and 1 would show as a mismatch.

@@ -8,7 +8,7 @@ mod run;
 mod values;
 mod weigh;
 
-use crate::capi::{Compared, Reading, Refusal, Run, Step, Summary, Valued, Written};
+use crate::capi::{Compared, Reading, Refusal, Run, Step, FirstLine, Valued, Written};
 use crate::chart::Chart;
 use std::cell::OnceCell;
 
@@ -52,7 +52,7 @@ impl<'a> Subject<'a> {
     pub fn value(&self, lengths: [usize; 3]) -> (Valued, Rows) {
         match self.valued(lengths) {
             Ok(valuation) => (
-                Valued { refusal: Refusal::default(), rounds: valuation.summary.rounds },
+                Valued { refusal: Refusal::default(), rounds: valuation.first_line.rounds },
                 [valuation.values.clone(), valuation.choices.clone(), valuation.steps.clone()],
             ),
             Err(refusal) => (Valued { refusal, ..Valued::default() }, Rows::default()),
@@ -85,10 +85,10 @@ impl<'a> Subject<'a> {
     pub fn read(&self, plate: &[u8], lengths: [usize; 3]) -> (Reading, Rows) {
         match self.plate_read(plate, lengths) {
             Ok(plate) => (
-                Reading { refusal: Refusal::default(), summary: plate.summary },
+                Reading { refusal: Refusal::default(), first_line: plate.first_line },
                 [plate.values, plate.choices, plate.steps],
             ),
-            Err(refusal) => (Reading { refusal, summary: Summary::default() }, Rows::default()),
+            Err(refusal) => (Reading { refusal, first_line: FirstLine::default() }, Rows::default()),
         }
     }
 

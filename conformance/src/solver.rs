@@ -37,7 +37,7 @@ fn valued(chart: &[u8], values: &mut [u16], choices: &mut [u16], steps: &mut [u1
     values[..n].copy_from_slice(&plate.values[..n]);
     choices[..n].copy_from_slice(&plate.choices[..n]);
     steps[..n].copy_from_slice(&plate.steps[..n]);
-    Ok(plate.summary.rounds)
+    Ok(plate.first_line.rounds)
 }
 
 /// Writing.
@@ -116,7 +116,7 @@ fn solve(board: &Board, plate: &mut Plate) {
             plate.choices[v] = greatest(board.meant(v), &plate.values);
         }
     }
-    plate.summary = plate.summed(board.n, rounds);
+    plate.first_line = plate.summed(board.n, rounds);
 }
 
 /// The first of the targets with the greatest value.

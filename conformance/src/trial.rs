@@ -104,7 +104,7 @@ impl Trial {
         });
         if answer.refusal.number == 0 {
             let [values, choices, steps] = rows;
-            let again = plate_text(&Plate { summary: answer.summary, values, choices, steps });
+            let again = plate_text(&Plate { first_line: answer.first_line, values, choices, steps });
             assert_eq!(again, plate, "what was read, set out again, is the same bytes");
         }
     }

@@ -13,7 +13,7 @@ pub fn accepted(chart: &Chart, plate: &Plate) -> Result<(), Refusal> {
             return fault(v, condition);
         }
     }
-    if plate.summary != summed(&plate.values, &plate.steps) {
+    if plate.first_line != summed(&plate.values, &plate.steps) {
         return fault(chart.len(), 6);
     }
     Ok(())

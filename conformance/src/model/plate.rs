@@ -1,7 +1,7 @@
 //! The plate's text, and back from a text to a plate, or to refusal 11 with its line.
 
 use super::{parse::number, refused_at};
-use crate::capi::{Refusal, Summary, NONE};
+use crate::capi::{Refusal, FirstLine, NONE};
 use crate::chart::push_number;
 
 const LINE: usize = 22;
@@ -9,7 +9,7 @@ const LINE: usize = 22;
 /// A plate's numbers, right or wrong.
 #[derive(Clone, Debug, PartialEq, Eq)]
 pub struct Plate {
-    pub summary: Summary,
+    pub first_line: FirstLine,
     pub values: Vec<u16>,
     pub choices: Vec<u16>,
     pub steps: Vec<u16>,
@@ -20,9 +20,9 @@ pub fn plate_text(plate: &Plate) -> Vec<u8> {
     let mut text = Vec::with_capacity(LINE * (n + 1));
     text.push(b'P');
     push_number(&mut text, n);
-    push_number(&mut text, usize::from(plate.summary.rounds));
-    push_entry(&mut text, plate.summary.highest, b"    -");
-    push_number(&mut text, usize::from(plate.summary.evers));
+    push_number(&mut text, usize::from(plate.first_line.rounds));
+    push_entry(&mut text, plate.first_line.highest, b"    -");
+    push_number(&mut text, usize::from(plate.first_line.evers));
     text.push(b'\n');
     for v in 0..n {
         text.push(b'V');
@@ -51,7 +51,7 @@ pub fn parse(n: usize, text: &[u8]) -> Result<Plate, Refusal> {
     let mut lines = text.chunks(LINE);
     let first = lines.next().and_then(|line| first_line(n, line));
     let mut plate = Plate {
-        summary: first.ok_or(refused_at(11, 0))?,
+        first_line: first.ok_or(refused_at(11, 0))?,
         values: Vec::with_capacity(n),
         choices: Vec::with_capacity(n),
         steps: Vec::with_capacity(n),
@@ -65,12 +65,12 @@ pub fn parse(n: usize, text: &[u8]) -> Result<Plate, Refusal> {
     Ok(plate)
 }
 
-fn first_line(n: usize, line: &[u8]) -> Option<Summary> {
+fn first_line(n: usize, line: &[u8]) -> Option<FirstLine> {
     let [count, rounds, highest, evers] = fields(line, b'P')?;
     if number(count)? != n {
         return None;
     }
-    Some(Summary { rounds: below(rounds, 513)?, highest: entry(highest, b"    -", 512)?, evers: below(evers, 513)? })
+    Some(FirstLine { rounds: below(rounds, 513)?, highest: entry(highest, b"    -", 512)?, evers: below(evers, 513)? })
 }
 
 fn position_line(n: usize, v: usize, line: &[u8]) -> Option<[u16; 3]> {

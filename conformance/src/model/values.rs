@@ -1,7 +1,7 @@
 //! Values by their definition, steps by the rounds of document 01, the choices, and the first line's numbers.
 
 use super::plate::Plate;
-use crate::capi::{Summary, NONE};
+use crate::capi::{FirstLine, NONE};
 use crate::chart::{Chart, Owner, Position};
 use std::collections::BTreeSet;
 
@@ -9,7 +9,7 @@ pub struct Valuation {
     pub values: Vec<u16>,
     pub choices: Vec<u16>,
     pub steps: Vec<u16>,
-    pub summary: Summary,
+    pub first_line: FirstLine,
 }
 
 impl Valuation {
@@ -21,13 +21,13 @@ impl Valuation {
         assert!(by_rounds.eq(values.iter().copied()), "values by rounds differ: {chart:?}");
         let steps: Vec<u16> = placed.iter().map(|pair| pair.map_or(NONE, |(_, step)| step)).collect();
         let choices = chart.positions.iter().map(|p| choice(p, &values)).collect();
-        let summary = summed(&values, &steps);
-        Valuation { values, choices, steps, summary }
+        let first_line = summed(&values, &steps);
+        Valuation { values, choices, steps, first_line }
     }
 
     pub fn plate(&self) -> Plate {
         Plate {
-            summary: self.summary,
+            first_line: self.first_line,
             values: self.values.clone(),
             choices: self.choices.clone(),
             steps: self.steps.clone(),
@@ -138,8 +138,8 @@ fn choice(position: &Position, values: &[u16]) -> u16 {
 }
 
 /// The numbers of a plate's first line, from its other lines.
-pub fn summed(values: &[u16], steps: &[u16]) -> Summary {
-    Summary { rounds: pairs(values, steps), highest: highest(values), evers: evers(values) }
+pub fn summed(values: &[u16], steps: &[u16]) -> FirstLine {
+    FirstLine { rounds: pairs(values, steps), highest: highest(values), evers: evers(values) }
 }
 
 /// How many different pairs of value and step occur; "ever" has none.

@@ -174,7 +174,7 @@ pub fn alter(random: &mut Random, chart: &Chart, plate: &mut Plate) {
         4 => plate.choices[v] = *random.pick(&[NONE, v as u16, w as u16]),
         5 => plate.choices[v] = *random.pick(&chart.positions[v].meant),
         6 => plate.choices = random_choices(random, chart),
-        7 => alter_summary(random, plate),
+        7 => alter_first_line(random, plate),
         8 => plate.values.iter_mut().for_each(|value| *value = lifted(*value, 1, 1)),
         9 => plate.steps.iter_mut().for_each(|step| *step = lifted(*step, 2, v as u16 % 2)),
         10 => {
@@ -205,17 +205,17 @@ fn lifted(number: u16, factor: u16, more: u16) -> u16 {
     (factor * number + more).min(511)
 }
 
-fn alter_summary(random: &mut Random, plate: &mut Plate) {
-    let summary = &mut plate.summary;
+fn alter_first_line(random: &mut Random, plate: &mut Plate) {
+    let first_line = &mut plate.first_line;
     let near = |random: &mut Random, old: u16, most: u16| {
         let new = if random.chance(50) { old.wrapping_add(1) } else { old.wrapping_sub(1) };
         new.min(most)
     };
     match random.below(4) {
-        0 => summary.rounds = near(random, summary.rounds, 512),
-        1 => summary.highest = near(random, summary.highest, 511),
-        2 => summary.evers = near(random, summary.evers, 512),
-        _ => summary.highest = NONE,
+        0 => first_line.rounds = near(random, first_line.rounds, 512),
+        1 => first_line.highest = near(random, first_line.highest, 511),
+        2 => first_line.evers = near(random, first_line.evers, 512),
+        _ => first_line.highest = NONE,
     }
 }
 
@@ -233,7 +233,7 @@ fn alter_class(random: &mut Random, plate: &mut Plate, v: usize) {
 
 /// Makes the first line's numbers fit the other lines, so that a fault of theirs isn't all there is to find.
 pub fn mend_plate(plate: &mut Plate) {
-    plate.summary = summed(&plate.values, &plate.steps);
+    plate.first_line = summed(&plate.values, &plate.steps);
 }
 
 /// One damage to a row of choices: an entry, or the row's length.

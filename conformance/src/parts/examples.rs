@@ -159,11 +159,11 @@ fn longest(trial: &mut Trial) {
         let text = chart.text();
         let subject = Subject::new(&text);
         assert_eq!((chart.len(), chart.moves()), (POSITIONS, MOVES));
-        assert_eq!(usize::from(subject.valuation(&chart).summary.rounds), POSITIONS);
+        assert_eq!(usize::from(subject.valuation(&chart).first_line.rounds), POSITIONS);
         trial.tally.inputs += 1;
         trial.value(&subject, [POSITIONS; 3]);
         trial.write(&subject, 22 * (POSITIONS + 1));
     }
     let text = ladder.text();
-    assert_eq!(Subject::new(&text).valuation(&ladder).summary.highest, 511);
+    assert_eq!(Subject::new(&text).valuation(&ladder).first_line.highest, 511);
 }

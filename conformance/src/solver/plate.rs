@@ -2,7 +2,7 @@
 
 use super::board::Board;
 use super::{field, Row};
-use crate::capi::{Refusal, Summary, NONE};
+use crate::capi::{Refusal, FirstLine, NONE};
 use crate::chart::POSITIONS;
 
 pub const LINE: usize = 22;
@@ -11,7 +11,7 @@ const DASH: &[u8; 5] = b"    -";
 const EVER: &[u8; 5] = b" ever";
 
 pub struct Plate {
-    pub summary: Summary,
+    pub first_line: FirstLine,
     pub values: Row,
     pub choices: Row,
     pub steps: Row,
@@ -20,7 +20,7 @@ pub struct Plate {
 impl Plate {
     pub fn empty() -> Plate {
         Plate {
-            summary: Summary::default(),
+            first_line: FirstLine::default(),
             values: [NONE; POSITIONS],
             choices: [NONE; POSITIONS],
             steps: [NONE; POSITIONS],
@@ -28,22 +28,22 @@ impl Plate {
     }
 
     /// The first line's numbers for these rows.
-    pub fn summed(&self, n: usize, rounds: u16) -> Summary {
-        let mut summary = Summary { rounds, highest: NONE, evers: 0 };
+    pub fn summed(&self, n: usize, rounds: u16) -> FirstLine {
+        let mut first_line = FirstLine { rounds, highest: NONE, evers: 0 };
         for &value in &self.values[..n] {
             if value == NONE {
-                summary.evers += 1;
-            } else if summary.highest == NONE || value > summary.highest {
-                summary.highest = value;
+                first_line.evers += 1;
+            } else if first_line.highest == NONE || value > first_line.highest {
+                first_line.highest = value;
             }
         }
-        summary
+        first_line
     }
 
     pub fn write(&self, n: usize, buffer: &mut [u8]) {
-        let summary = &self.summary;
+        let first_line = &self.first_line;
         let (first, rest) = buffer.split_at_mut(LINE);
-        put_line(first, b'P', n as u16, [summary.rounds, summary.highest, summary.evers], DASH);
+        put_line(first, b'P', n as u16, [first_line.rounds, first_line.highest, first_line.evers], DASH);
         for (v, line) in rest.chunks_exact_mut(LINE).enumerate() {
             let entries = [self.values[v], self.choices[v], self.steps[v]];
             put_line(line, b'V', v as u16, entries, DASH);
@@ -60,7 +60,7 @@ impl Plate {
             return Err(at(0));
         }
         let (first, rest) = text.split_at(LINE);
-        self.summary = summary(n, first).ok_or(at(0))?;
+        self.first_line = first_line(n, first).ok_or(at(0))?;
         for (v, line) in rest.chunks_exact(LINE).enumerate() {
             let [count, value, choice, step] = fields(line, b'V').ok_or(at(1 + v))?;
             let read = || {
@@ -80,7 +80,7 @@ impl Plate {
                 return Err(fault(v, condition));
             }
         }
-        if self.summary != self.summed(board.n, self.pairs(board.n)) {
+        if self.first_line != self.summed(board.n, self.pairs(board.n)) {
             return Err(fault(board.n, 6));
         }
         Ok(())
@@ -165,12 +165,12 @@ fn put_line(line: &mut [u8], letter: u8, number: u16, entries: [u16; 3], none: &
     line[LINE - 1] = b'\n';
 }
 
-fn summary(n: usize, line: &[u8]) -> Option<Summary> {
+fn first_line(n: usize, line: &[u8]) -> Option<FirstLine> {
     let [count, rounds, highest, evers] = fields(line, b'P')?;
     if field::number(count)? as usize != n {
         return None;
     }
-    Some(Summary { rounds: below(rounds, 513)?, highest: entry(highest, DASH, 512)?, evers: below(evers, 513)? })
+    Some(FirstLine { rounds: below(rounds, 513)?, highest: entry(highest, DASH, 512)?, evers: below(evers, 513)? })
 }
 
 /// The four fields of a line with this letter and a line feed.

@@ -1,19 +1,19 @@
-// The jobs' answers as C has them: numbers in structs that lie as C's do.
-ghost use mathlib.Core.Bool.{true, false};
+// The jobs' answers as C has them: numbers in structs that lie as C's do. Each is the result's own numbers, or the refusal's by the one
+// table and zeros.
 ghost use mathlib.Core.Path.{_≡_};
-ghost use Rattle.audit.specs.Checking.{numbersFrom};
-ghost use Rattle.answers.specs.Numbers.{answerNumbers, comparedAs, comparedNumbers, noSummary, notStarted, readingAs, readingNumbers, refusedStep, reportedNumbers, startedNumbers, taken, valuedAs, valuedNumbers, weighedNumbers, writtenAs, writtenNumbers};
-use audit::Numbers;
-use audit::numbers_of;
-use compare::Compared;
+ghost use Rattle.answers.specs.Numbers.{answerNumbers, checkedNumbers, comparedNumbers, readingNumbers, refusedStep, reportedNumbers, startedNumbers, valuedNumbers, weighedNumbers, writtenNumbers};
+use checking::Checked;
+use comparing::Compared;
 use reading::Reading;
+use refusal::Numbers;
+use refusal::Refusal;
+use rows::FirstLine;
 use run::Advice;
 use run::Answer;
 use run::Reported;
 use run::Run;
 use run::Started;
-use summary::Summary;
-use value::valuing::Valued;
+use valuing::Valued;
 use weighing::Weighed;
 use writing::Written;
 
@@ -32,7 +32,7 @@ pub struct WrittenNumbers {
 #[repr(C)]
 pub struct ReadingNumbers {
     pub refusal: Numbers,
-    pub summary: Summary,
+    pub first: FirstLine,
 }
 
 #[repr(C)]
@@ -57,20 +57,13 @@ pub fn valued_numbers(answer: Valued) -> ValuedNumbers
 {
     match answer {
         Valued::Rounds(rounds) => ValuedNumbers {
-            refusal: numbers_of(0, 0, 0, 0),
+            refusal: Numbers::none(),
             rounds,
         },
-        Valued::Refused(r) => not_valued(r.number(), r.line()),
-        Valued::Short => not_valued(10, 0),
-    }
-}
-
-fn not_valued(number: u32, line: usize) -> ValuedNumbers
-    ensures { λ r. ⌜ r ≡ valuedAs (numbersFrom number line 0 0) 0 ⌝ }
-{
-    ValuedNumbers {
-        refusal: numbers_of(number, line, 0, 0),
-        rounds: 0,
+        Valued::Refused(r) => ValuedNumbers {
+            refusal: r.numbers(),
+            rounds: 0,
+        },
     }
 }
 
@@ -79,20 +72,13 @@ pub fn written_numbers(answer: Written) -> WrittenNumbers
 {
     match answer {
         Written::Length(length) => WrittenNumbers {
-            refusal: numbers_of(0, 0, 0, 0),
+            refusal: Numbers::none(),
             length,
         },
-        Written::Refused(r) => not_written(r.number(), r.line()),
-        Written::Short => not_written(10, 0),
-    }
-}
-
-fn not_written(number: u32, line: usize) -> WrittenNumbers
-    ensures { λ r. ⌜ r ≡ writtenAs (numbersFrom number line 0 0) 0 ⌝ }
-{
-    WrittenNumbers {
-        refusal: numbers_of(number, line, 0, 0),
-        length: 0,
+        Written::Refused(r) => WrittenNumbers {
+            refusal: r.numbers(),
+            length: 0,
+        },
     }
 }
 
@@ -100,26 +86,27 @@ pub fn reading_numbers(answer: Reading) -> ReadingNumbers
     ensures { λ r. ⌜ r ≡ readingNumbers answer ⌝ }
 {
     match answer {
-        Reading::Rows(summary) => ReadingNumbers {
-            refusal: numbers_of(0, 0, 0, 0),
-            summary,
+        Reading::Rows(first) => ReadingNumbers {
+            refusal: Numbers::none(),
+            first,
         },
-        Reading::Refused(r) => not_read(r.number(), r.line()),
-        Reading::Short => not_read(10, 0),
-        Reading::Malformed(line) => not_read(11, line),
+        Reading::Refused(r) => ReadingNumbers {
+            refusal: r.numbers(),
+            first: FirstLine {
+                rounds: 0,
+                highest: 0,
+                evers: 0,
+            },
+        },
     }
 }
 
-fn not_read(number: u32, line: usize) -> ReadingNumbers
-    ensures { λ r. ⌜ r ≡ readingAs (numbersFrom number line 0 0) noSummary ⌝ }
+pub fn checked_numbers(answer: Checked) -> Numbers
+    ensures { λ r. ⌜ r ≡ checkedNumbers answer ⌝ }
 {
-    ReadingNumbers {
-        refusal: numbers_of(number, line, 0, 0),
-        summary: Summary {
-            rounds: 0,
-            highest: 0,
-            evers: 0,
-        },
+    match answer {
+        Checked::Accepted => Numbers::none(),
+        Checked::Refused(r) => r.numbers(),
     }
 }
 
@@ -127,10 +114,8 @@ pub fn weighed_numbers(answer: Weighed) -> Numbers
     ensures { λ r. ⌜ r ≡ weighedNumbers answer ⌝ }
 {
     match answer {
-        Weighed::Done => numbers_of(0, 0, 0, 0),
-        Weighed::Refused(r) => numbers_of(r.number(), r.line(), 0, 0),
-        Weighed::Short => numbers_of(10, 0, 0, 0),
-        Weighed::Choice => numbers_of(12, 0, 0, 0),
+        Weighed::Done => Numbers::none(),
+        Weighed::Refused(r) => r.numbers(),
     }
 }
 
@@ -138,43 +123,27 @@ pub fn compared_numbers(answer: Compared) -> ComparedNumbers
     ensures { λ r. ⌜ r ≡ comparedNumbers answer ⌝ }
 {
     match answer {
-        Compared::Agree => agreed(),
+        Compared::Agree => ComparedNumbers {
+            refusal: Numbers::none(),
+            agree: true,
+            position: 0,
+            value: 0,
+            worth: 0,
+        },
         Compared::Differ(position, value, worth) => ComparedNumbers {
-            refusal: numbers_of(0, 0, 0, 0),
+            refusal: Numbers::none(),
             agree: false,
             position,
             value,
             worth,
         },
-        Compared::Refused(r) => not_compared(r.number(), r.line(), 0, 0),
-        Compared::Short => not_compared(10, 0, 0, 0),
-        Compared::Form(line) => not_compared(11, line, 0, 0),
-        Compared::Choice => not_compared(12, 0, 0, 0),
-        Compared::Fault(v, condition) => not_compared(14, 0, v, condition),
-    }
-}
-
-fn agreed() -> ComparedNumbers
-    ensures { λ r. ⌜ r ≡ comparedAs taken true ⌝ }
-{
-    ComparedNumbers {
-        refusal: numbers_of(0, 0, 0, 0),
-        agree: true,
-        position: 0,
-        value: 0,
-        worth: 0,
-    }
-}
-
-fn not_compared(number: u32, line: usize, position: usize, condition: u8) -> ComparedNumbers
-    ensures { λ r. ⌜ r ≡ comparedAs (numbersFrom number line position condition) false ⌝ }
-{
-    ComparedNumbers {
-        refusal: numbers_of(number, line, position, condition),
-        agree: false,
-        position: 0,
-        value: 0,
-        worth: 0,
+        Compared::Refused(r) => ComparedNumbers {
+            refusal: r.numbers(),
+            agree: false,
+            position: 0,
+            value: 0,
+            worth: 0,
+        },
     }
 }
 
@@ -183,29 +152,11 @@ pub fn started_numbers(answer: Started) -> Step
 {
     match answer {
         Started::Begun(run, advice) => Step {
-            refusal: numbers_of(0, 0, 0, 0),
+            refusal: Numbers::none(),
             run,
             advice,
         },
-        Started::Refused(r) => not_started(r.number(), r.line(), 0, 0),
-        Started::Form(line) => not_started(11, line, 0, 0),
-        Started::Position => not_started(13, 0, 0, 0),
-        Started::Fault(v, condition) => not_started(14, 0, v, condition),
-    }
-}
-
-// A refused start has no run: its numbers are 0.
-fn not_started(number: u32, line: usize, position: usize, condition: u8) -> Step
-    ensures { λ r. ⌜ r ≡ notStarted (numbersFrom number line position condition) ⌝ }
-{
-    let run = Run::restored(0, 0, 0);
-    Step {
-        refusal: numbers_of(number, line, position, condition),
-        run,
-        advice: Advice {
-            choice: 0,
-            value: 0,
-        },
+        Started::Refused(r) => refused_step(r, Run::restored(0, 0, 0)),
     }
 }
 
@@ -222,24 +173,20 @@ fn answer_numbers(run: Run, answer: Answer) -> Step
 {
     match answer {
         Answer::Taken(advice) => Step {
-            refusal: numbers_of(0, 0, 0, 0),
+            refusal: Numbers::none(),
             run,
             advice,
         },
-        Answer::Refused(r) => unmoved(run, r.number(), r.line()),
-        Answer::Form(line) => unmoved(run, 11, line),
-        Answer::Position => unmoved(run, 13, 0),
-        Answer::Move => unmoved(run, 15, 0),
-        Answer::Count => unmoved(run, 16, 0),
+        Answer::Refused(r) => refused_step(r, run),
     }
 }
 
-// A refused report hands the run back as it was.
-fn unmoved(run: Run, number: u32, line: usize) -> Step
-    ensures { λ r. ⌜ r ≡ refusedStep (numbersFrom number line 0 0) run ⌝ }
+// A refusal with the run that comes back, and no advice.
+fn refused_step(refusal: Refusal, run: Run) -> Step
+    ensures { λ r. ⌜ r ≡ refusedStep refusal run ⌝ }
 {
     Step {
-        refusal: numbers_of(number, line, 0, 0),
+        refusal: refusal.numbers(),
         run,
         advice: Advice {
             choice: 0,

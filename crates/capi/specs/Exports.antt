@@ -2,17 +2,17 @@
 use Prim.Native.Nat.{ℕ}
 use mathlib.Core.Path.{_≡_}
 use mathlib.Core.List.{List}
-use Rattle.value.specs.Valuing.{ValuedIs}
+use Rattle.valuing.specs.Valuing.{ValuedIs}
 use Rattle.weighing.specs.Weighing.{WeighedIs}
-use Rattle.value.specs.declared.valuing.Valued.{Valued}
+use Rattle.valuing.specs.declared.Valued.{Valued}
 use Rattle.weighing.specs.declared.Weighed.{Weighed}
 use Rattle.reading.specs.Reading.{ReadingIs}
 use Rattle.reading.specs.declared.Reading.{Reading}
 use Rattle.writing.specs.Writing.{WrittenIs}
 use Rattle.writing.specs.declared.Written.{Written}
-use Rattle.compare.specs.Compared.{ComparedIs}
-use Rattle.compare.specs.declared.Compared.{Compared}
-use Rattle.audit.specs.declared.Numbers.{Numbers}
+use Rattle.comparing.specs.Compared.{ComparedIs}
+use Rattle.comparing.specs.declared.Compared.{Compared}
+use Rattle.refusal.specs.declared.Numbers.{Numbers}
 use Rattle.answers.specs.Numbers.{comparedNumbers, readingNumbers, valuedNumbers, weighedNumbers, writtenNumbers}
 use Rattle.answers.specs.declared.ValuedNumbers.{ValuedNumbers}
 use Rattle.answers.specs.declared.WrittenNumbers.{WrittenNumbers}

@@ -1,15 +1,16 @@
 // The C interface: each of the library's jobs as a function on pointers and lengths, thin over the job. `c/dushemqa.h` declares them.
 // What is lent and the run are the caller's own; nothing is kept.
 ghost use mathlib.Core.Path.{_≡_};
-ghost use Rattle.audit.specs.Checking.{checked, numbersOf};
+ghost use Rattle.checking.specs.Checking.{checked};
 ghost use Rattle.run.specs.Running.{reported, started};
-ghost use Rattle.answers.specs.Numbers.{reportedNumbers, startedNumbers};
+ghost use Rattle.answers.specs.Numbers.{checkedNumbers, reportedNumbers, startedNumbers};
 ghost use Rattle.capi.specs.Exports.{ComparedAs, ReadAs, ValuedAs, WeighedAs, WrittenAs};
 use answers::ComparedNumbers;
 use answers::ReadingNumbers;
 use answers::Step;
 use answers::ValuedNumbers;
 use answers::WrittenNumbers;
+use answers::checked_numbers;
 use answers::compared_numbers;
 use answers::reading_numbers;
 use answers::reported_numbers;
@@ -17,12 +18,12 @@ use answers::started_numbers;
 use answers::valued_numbers;
 use answers::weighed_numbers;
 use answers::written_numbers;
-use audit::Numbers;
-use audit::check;
-use compare::compare;
+use checking::check;
+use comparing::compare;
 use reading::read_plate;
+use refusal::Numbers;
 use run::Run;
-use value::valuing::value_chart;
+use valuing::value_chart;
 use weighing::weigh_chart;
 use writing::write_plate;
 
@@ -64,9 +65,9 @@ pub extern "C" fn dushemqa_read(
 // Checking.
 #[no_mangle]
 pub extern "C" fn dushemqa_check(text: &[u8], plate: &[u8]) -> Numbers
-    ensures { λ r. ⌜ r ≡ numbersOf (checked (now (text .entry)) (now (plate .entry))) ⌝ }
+    ensures { λ r. ⌜ r ≡ checkedNumbers (checked (now (text .entry)) (now (plate .entry))) ⌝ }
 {
-    check(text, plate).numbers()
+    checked_numbers(check(text, plate))
 }
 
 // Weighing.

@@ -6,8 +6,8 @@ use native.Mathlib.Nat.{le-trans}
 use mathlib.Core.Path.{_≡_, refl, sym, ap, _∙_, subst}
 use mathlib.Core.Logic.{inl, inr, ⊎-elim}
 use mathlib.Core.Bool.{Bool, true, false, cond}
-use mathlib.Core.List.{List, [], _∷_, List·Memᴰ, Memᴰ·cast}
-use lib.ListN.{length, getD}
+use mathlib.Core.List.{List, List·Memᴰ, Memᴰ·cast}
+use lib.ListN.{length}
 use lib.Dec.{T, ltb, eqb}
 use borrow.Author.Tests.{ltb-true, ltb-false, eqb-true, ne-eqb}
 use Rattle.game.specs.Members.{member-at, at-member}
@@ -17,7 +17,7 @@ use Rattle.chart.specs.Meaning.{ownerOf, costOf, positionOn, moveOn, are
 use Rattle.chart.specs.Examined.{above, rises, meantLine, meantIn, examined}
 use Rattle.chart.specs.Good.{GoodChart, accepted-good}
 use Rattle.chart.specs.Arenas.{arena-size, arena-moves, arena-position, arena-move}
-use Rattle.chart.specs.declared.Chart.{Chart}
+use Rattle.rows.specs.declared.Chart.{Chart}
 use Rattle.chart.specs.declared.Examination.the-variants.{Accepted}
 
 -- the test of two moves is the order of moves
@@ -61,14 +61,14 @@ cost-small letter = go (eqb letter 68)
     go true = omega arith
     go false = omega arith
 
--- the letter of a move that costs 1, and of an owner that may be disturbed
-disturbance-letter : (letter : ℕ) → costOf letter ≡ 1 → letter ≡ 68
+-- the letter of a move that is a disturbance, and of an owner that may be disturbed
+disturbance-letter : (letter c : ℕ) → costOf letter ≡ suc c → letter ≡ 68
 unfolding costOf
-disturbance-letter letter e = go (eqb letter 68) refl
+disturbance-letter letter c e = go (eqb letter 68) refl
   where
     go : (b : Bool) → eqb letter 68 ≡ b → letter ≡ 68
     go true h = eqb-true letter 68 h
-    go false h = let z : _≡_ {A = ℕ} 0 1 = simp h at e in absurd (omega arith)
+    go false h = let z : 0 ≡ suc c = simp h at e in absurd (omega arith)
 
 not-environment : (letter : ℕ) → (letter ≡ 76 → ⊥) → T (mayBeDisturbed (ownerOf letter))
 unfolding ownerOf
@@ -107,11 +107,11 @@ module _ (text : List ℕ) (good : GoodChart text) where
         let w = move-on m k in
         let line = good .move (positionsOf text + 1 + w .0) (omega arith) (omega (arith, w .1)) in
         subst (λ (x : Move). x .to < size (arenaOf text)) (w .2) (rw arena-size (line .to-position));
-    disturbed = λ v u k.
-        let w = move-on (disturbanceMove v u) k in
+    disturbed = λ v u (c, k).
+        let w = move-on (disturbanceMove (suc c) v u) k in
         let i = positionsOf text + 1 + w .0 in
         let line = good .move i (omega arith) (omega (arith, w .1)) in
-        let letter : letterAt text i ≡ 68 = disturbance-letter (letterAt text i) (ap (λ (x : Move). x .cost) (w .2)) in
+        let letter : letterAt text i ≡ 68 = disturbance-letter (letterAt text i) c (ap (λ (x : Move). x .cost) (w .2)) in
         let from : fromAt text i ≡ v = ap (λ (x : Move). x .from) (w .2) in
         let inside : v < positionsOf text = omega (arith, line .from-position) in
         subst (λ (p : Position). T (mayBeDisturbed (p .owner))) (sym (arena-position text v inside))

@@ -5,11 +5,10 @@ use mathlib.Core.Path.{_≡_, refl}
 use mathlib.Core.Bool.{Bool, false, cond}
 use mathlib.Core.List.{List}
 use lib.Dec.{eqb}
-use Rattle.field.specs.Text.{fieldAt, five}
-use Rattle.field.specs.Laws.{reads-number}
+use Rattle.field.specs.Laws.{field-small}
 use Rattle.field.specs.declared.Field.{Field}
 use Rattle.field.specs.declared.Field.the-variants.{Number, Bad}
-use Rattle.chart.specs.Text.{letterAt, firstAt, secondAt, endAt, numberOf, fromAt, toAt}
+use Rattle.chart.specs.Text.{letterAt, firstAt, secondAt, endAt, fieldNumber, fromAt}
 use Rattle.chart.specs.declared.Row.{Row}
 
 -- the columns of line i
@@ -18,20 +17,12 @@ rowAt text i = record { letter = letterAt text i; first = firstAt text i; second
 
 -- a row with the letter of a meant move from v
 unfoldable pub meantRow : Row → ℕ → Bool
-meantRow row v = cond (eqb (row .letter) 77) (eqb (numberOf (row .first)) v) false
-
-number-small : (text : List ℕ) (at : ℕ) → numberOf (fieldAt text at) ≤ 99999
-unfolding numberOf fieldAt five
-number-small text at = go (fieldAt text at) refl
-  where
-    go : (f : Field) → fieldAt text at ≡ f → numberOf f ≤ 99999
-    go (Number x) e = reads-number (five text at) x refl e .1
-    go Bad e = omega arith
+meantRow row v = cond (eqb (row .letter) 77) (eqb (fieldNumber (row .first)) v) false
 
 pub from-small : (text : List ℕ) (i : ℕ) → fromAt text i ≤ 99999
-unfolding fromAt firstAt
-from-small text i = number-small text (i * 12 + 1)
-
-pub to-small : (text : List ℕ) (i : ℕ) → toAt text i ≤ 99999
-unfolding toAt secondAt
-to-small text i = number-small text (i * 12 + 6)
+unfolding fromAt firstAt fieldNumber
+from-small text i = go (firstAt text i) refl
+  where
+    go : (f : Field) → firstAt text i ≡ f → fieldNumber f ≤ 99999
+    go (Number x) e = field-small text (i * 12 + 1) x e
+    go Bad e = omega arith

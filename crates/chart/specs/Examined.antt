@@ -6,12 +6,13 @@ use mathlib.Core.Bool.{Bool, true, false, cond}
 use mathlib.Core.List.{List}
 use lib.ListN.{length, getD}
 use lib.Dec.{ltb, leb, eqb}
+use Rattle.search.specs.First.{firstFrom}
 use Rattle.field.specs.declared.Field.{Field}
-use Rattle.chart.specs.Text.{letterAt, firstAt, secondAt, endAt, markAt, numberOf, isNumber, positionsOf, movesOf, fromAt, toAt}
+use Rattle.chart.specs.Text.{letterAt, firstAt, secondAt, endAt, markAt, fieldNumber, isNumber, positionsOf, movesOf, fromAt, toAt}
 use Rattle.chart.specs.Meaning.{costOf}
-use Rattle.chart.specs.declared.Chart.{Chart}
+use Rattle.rows.specs.declared.Chart.{Chart}
 use Rattle.chart.specs.declared.Row.{Row}
-use Rattle.refusal.specs.declared.Refusal.the-variants.{Length, Form, Limits, Count, Sequence, Endpoint, Disturbed, Order, NoMeant}
+use Rattle.refusal.specs.declared.Misdrawn.the-variants.{Length, Form, Limits, Count, Sequence, Endpoint, Disturbed, Order, NoMeant}
 use Rattle.chart.specs.declared.Finding.{Finding}
 use Rattle.chart.specs.declared.Finding.the-variants.{Clean, Fault}
 use Rattle.chart.specs.declared.Examination.{Examination}
@@ -61,11 +62,11 @@ judgedPosition ok i position mark =
     (Fault (Form i))
 
 unfoldable pub positionFinding : List ℕ → ℕ → Finding
-positionFinding text i = judgedPosition (positionFormed text i) i (fromAt text i) (numberOf (markAt text i))
+positionFinding text i = judgedPosition (positionFormed text i) i (fromAt text i) (fieldNumber (markAt text i))
 
 -- the same from the line's columns
 unfoldable pub positionRowFinding : Row → ℕ → Finding
-positionRowFinding row i = judgedPosition (formed (row .letter) (row .first) (row .second) (row .end) 79 76) i (numberOf (row .first)) (numberOf (row .second))
+positionRowFinding row i = judgedPosition (formed (row .letter) (row .first) (row .second) (row .end) 79 76) i (fieldNumber (row .first)) (fieldNumber (row .second))
 
 -- "by from, then M before D, then by to": the second move is above the first
 unfoldable pub above : ℕ → ℕ → ℕ → ℕ → ℕ → ℕ → Bool
@@ -110,10 +111,14 @@ unfoldable pub orElse : Finding → Finding → Finding
 orElse Clean next = next
 orElse (Fault r) next = Fault r
 
+-- no fault
+abbrev pub isClean : Finding → Bool
+isClean Clean = true
+isClean (Fault r) = false
+
 -- the first fault of `count` findings from the i-th on
-unfoldable pub firstOf : (ℕ → Finding) → ℕ → ℕ → Finding
-firstOf f zero i = Clean
-firstOf f (suc count) i = orElse (f i) (firstOf f count (i + 1))
+abbrev pub firstFault : (ℕ → Finding) → ℕ → ℕ → Finding
+firstFault f = firstFrom (λ i. isClean (f i)) f Clean
 
 -- line i is a meant move from v
 unfoldable pub meantLine : List ℕ → ℕ → ℕ → Bool
@@ -141,8 +146,8 @@ answer chart (Fault r) = Refused r
 unfoldable pub afterHeader : List ℕ → Chart → Examination
 afterHeader text chart =
     answer chart
-    (orElse (firstOf (lineFinding text (chart .positions)) (chart .positions + chart .moves) 1)
-    (firstOf (missingAt text (chart .positions) (chart .moves)) (chart .positions) 0))
+    (orElse (firstFault (lineFinding text (chart .positions)) (chart .positions + chart .moves) 1)
+    (firstFault (missingAt text (chart .positions) (chart .moves)) (chart .positions) 0))
 
 unfoldable pub linesAfter : List ℕ → Examination → Examination
 linesAfter text (Accepted chart) = afterHeader text chart

@@ -3,31 +3,33 @@
 -- set out what it says (specs/Lines.antt); a line of an arena's text reads as what was set out, so that no refusal applies.
 use Prim.Native.Nat.{ℕ, zero, suc, _+_, _-_, _*_, _≤_, _<_}
 use native.Mathlib.Omega.{arith}
-use native.Mathlib.Nat.{add-comm, add-zero}
+use native.Mathlib.Nat.{add-comm}
 use mathlib.Core.Path.{_≡_, refl, sym, ap, ap₂, _∙_, subst, subst₂}
 use mathlib.Core.Logic.{_⊎_, inl, inr, ⊎-elim}
 use mathlib.Core.Bool.{Bool, true, false}
-use mathlib.Core.List.{List, [], _∷_, _++_, append-nil, Memᴰ·cast}
-use lib.ListN.{length, getD, drop, length-append, drop-of-length-le}
-use lib.Seq.{drop-append-add}
+use mathlib.Core.List.{List, [], _++_, append-assoc, append-nil, Memᴰ·cast}
+use lib.ListN.{length, drop, length-append, drop-of-length-le}
 use lib.Dec.{T, eqb, leb, eqb·suc-zero}
 use borrow.Author.Tests.{eqb-true, eqb-false, leb-true, leb-false}
 use Rattle.game.specs.Arena.{Arena, Position, Move, Owner, controller, environment, size, ownerAt, positionAt, moveAt, nowhere, noMove, meantMove, Disturbance, mayBeDisturbed}
 use Rattle.field.specs.declared.Field.{Field}
 use Rattle.field.specs.declared.Field.the-variants.{Number}
-use Rattle.chart.specs.Text.{letterAt, firstAt, secondAt, endAt, markAt, numberOf, positionsOf, movesOf, fromAt, toAt}
-use Rattle.chart.specs.Meaning.{ownerOf, ownerLetter, costOf, costLetter, positionOn, moveOn, onLines, arenaOf, lineText, positionText, moveText, linesText, chartText, Rises, Chartable}
+use Rattle.chart.specs.Text.{letterAt, firstAt, secondAt, endAt, markAt, fieldNumber, positionsOf, movesOf, fromAt, toAt}
+use Rattle.chart.specs.Meaning.{ownerOf, ownerLetter, costOf, costLetter, positionOn, moveOn, arenaOf, chartLine, positionText, moveText, chartText, Rises, Chartable}
 use Rattle.chart.specs.Examined.{examined}
-use Rattle.chart.specs.Good.{Formed, GoodPosition, GoodMove, GoodChart, accepted-good}
+use Rattle.chart.specs.Good.{Formed, GoodChart, accepted-good}
 use Rattle.game.specs.Members.{member-at, at-member}
-use Rattle.chart.specs.Arenas.{on-lines-length}
-use Rattle.chart.specs.Lines.{Reads, line-length, reads-line, line-reads, lines-text, lines-length, lines-at}
+use Rattle.line.specs.Joined.{joined, onLines}
+use Rattle.line.specs.LineLaws.{line-length}
+use Rattle.line.specs.JoinedLaws.{joined-length, joined-part, joined-stands, on-lines-list}
+use Rattle.chart.specs.Arenas.{arena-size, arena-moves, arena-position, arena-move}
+use Rattle.chart.specs.Lines.{Reads, reads-bytes, bytes-read}
 use Rattle.chart.specs.Refusals.{PositionLine, MoveLine, Allowed, BadLength, BadForm, OutsideLimits, WrongCount, OutOfSequence, BadEndpoint, BadDisturbance, OutOfOrder, WithoutMeant, Applies}
-use Rattle.chart.specs.LineExact.{form-good}
+use Rattle.chart.specs.LineExact.{position-second, other-second, form-good}
 use Rattle.chart.specs.Exact.{accepted-exactly}
-use Rattle.refusal.specs.declared.Refusal.{Refusal}
-use Rattle.refusal.specs.declared.Refusal.the-variants.{Length, Form, Limits, Count, Sequence, Endpoint, Disturbed, Order, NoMeant}
-use Rattle.chart.specs.declared.Chart.{Chart}
+use Rattle.refusal.specs.declared.Misdrawn.{Misdrawn}
+use Rattle.refusal.specs.declared.Misdrawn.the-variants.{Length, Form, Limits, Count, Sequence, Endpoint, Disturbed, Order, NoMeant}
+use Rattle.rows.specs.declared.Chart.{Chart}
 use Rattle.chart.specs.declared.Examination.the-variants.{Accepted}
 
 -- letters stand for owners and costs
@@ -39,48 +41,57 @@ letter-cost : (letter : ℕ) → (letter ≡ 77) ⊎ (letter ≡ 68) → costLet
 unfolding costOf costLetter
 letter-cost letter = ⊎-elim (λ e. rw e) (λ e. rw e)
 
--- the bytes of an accepted position line and of an accepted move line
-position-bytes : (text : List ℕ) (v : ℕ) → (1 + v + 1) * 12 ≤ length text → GoodPosition text (1 + v) →
-    drop ((1 + v) * 12) text ≡ positionText (0 + v) (positionOn text (1 + v)) ++ drop ((1 + v + 1) * 12) text
-unfolding positionText positionOn fromAt markAt
-position-bytes text v h g =
-    let number : numberOf (firstAt text (1 + v)) ≡ 0 + v = g .in-order ∙ omega arith in
-    rw (letter-owner (letterAt text (1 + v)) (g .form .allowed))
-    (reads-line text (1 + v) (letterAt text (1 + v)) (0 + v) (numberOf (secondAt text (1 + v))) h
-    (record { letter-is = refl; first-is = g .form .first-number ∙ ap Number number; second-is = g .form .second-number; end-is = g .form .ends }))
+-- the bytes of an accepted header, position line and move line
+module _ (text : List ℕ) (g : GoodChart text) where
+  lines : length text ≡ (1 + positionsOf text + movesOf text) * 12
+  lines = g .limits .lines
 
-move-bytes : (text : List ℕ) (n i k : ℕ) → (i + 1) * 12 ≤ length text → GoodMove text n i → drop (i * 12) text ≡ moveText k (moveOn text i) ++ drop ((i + 1) * 12) text
-unfolding moveText moveOn fromAt toAt
-move-bytes text n i k h g =
-    rw (letter-cost (letterAt text i) (g .form .allowed))
-    (reads-line text i (letterAt text i) (fromAt text i) (toAt text i) h
-    (record { letter-is = refl; first-is = g .form .first-number; second-is = g .form .second-number; end-is = g .form .ends }))
+  header-bytes : text ≡ chartLine 72 (positionsOf text) (movesOf text) ++ drop 12 text
+  unfolding positionsOf movesOf
+  header-bytes =
+      reads-bytes text 0 72 (positionsOf text) (movesOf text) (omega (arith, lines))
+      (record { letter-is = ⊎-elim (λ e. e) (λ e. e) (g .form .allowed); first-is = g .form .first-number; second-is = g .form .second-number; end-is = g .form .ends })
 
-header-bytes : (text : List ℕ) → (0 + 1) * 12 ≤ length text → GoodChart text → text ≡ lineText 72 (positionsOf text) (movesOf text) ++ drop ((0 + 1) * 12) text
-unfolding positionsOf movesOf
-header-bytes text h g =
-    reads-line text 0 72 (positionsOf text) (movesOf text) h
-    (record { letter-is = ⊎-elim (λ e. e) (λ e. e) (g .form .allowed); first-is = g .form .first-number; second-is = g .form .second-number; end-is = g .form .ends })
+  position-bytes : (v : ℕ) → v < positionsOf text → drop (12 + v * 12) text ≡ positionText v (positionAt (arenaOf text) v) ++ drop (12 + suc v * 12) text
+  unfolding positionText positionOn fromAt markAt
+  position-bytes v h =
+      let line = g .position (v + 1) (omega arith) (omega arith) in
+      let number : fieldNumber (firstAt text (v + 1)) ≡ v = line .in-order ∙ omega arith in
+      let here : 12 + v * 12 ≡ (v + 1) * 12 = omega arith in
+      let next : (v + 1 + 1) * 12 ≡ 12 + suc v * 12 = omega arith in
+      rw (arena-position text v h, letter-owner (letterAt text (v + 1)) (line .form .allowed))
+      (ap (λ (k : ℕ). drop k text) here
+      ∙ reads-bytes text (v + 1) (letterAt text (v + 1)) v (fieldNumber (secondAt text (v + 1))) (omega (arith, lines))
+      (record { letter-is = refl; first-is = line .form .first-number ∙ ap Number number; second-is = line .form .second-number; end-is = line .form .ends })
+      ∙ ap (λ (k : ℕ). chartLine (letterAt text (v + 1)) v (fieldNumber (secondAt text (v + 1))) ++ drop k text) next)
 
-good-faithful : (text : List ℕ) → GoodChart text → chartText (arenaOf text) ≡ text
-unfolding chartText arenaOf
-good-faithful text g =
-    let n = positionsOf text in
-    let m = movesOf text in
-    let lines : length text ≡ (1 + n + m) * 12 = g .limits .lines in
-    let head = header-bytes text (omega arith) g in
-    let positions = lines-text positionText text (positionOn text) n 0 1 (λ k l. position-bytes text k (omega arith) (g .position (1 + k) (omega arith) (omega arith))) in
-    let moves = lines-text moveText text (moveOn text) m 0 (n + 1) (λ k l. move-bytes text n (n + 1 + k) (0 + k) (omega arith) (g .move (n + 1 + k) (omega arith) (omega arith))) in
-    let past : length text ≤ (n + 1 + m) * 12 = omega arith in
-    let end : drop ((n + 1 + m) * 12) text ≡ [] = drop-of-length-le text past in
-    let positionLines = linesText positionText 0 (onLines (positionOn text) n 1) in
-    let moveLines = linesText moveText 0 (onLines (moveOn text) m (n + 1)) in
-    let next : drop ((1 + n) * 12) text ≡ drop ((n + 1) * 12) text = ap (λ (k : ℕ). drop (k * 12) text) (add-comm 1 n) in
-    rw (on-lines-length (positionOn text) n 1, on-lines-length (moveOn text) m (n + 1))
-    (sym
-    (head
-    ∙ ap (λ (l : List ℕ). lineText 72 n m ++ l)
-    (positions ∙ ap (λ (l : List ℕ). positionLines ++ l) (next ∙ moves ∙ ap (λ (l : List ℕ). moveLines ++ l) end ∙ append-nil moveLines))))
+  move-bytes : (i : ℕ) → i < movesOf text → drop (12 + positionsOf text * 12 + i * 12) text ≡ moveText (moveAt (arenaOf text) i) ++ drop (12 + positionsOf text * 12 + suc i * 12) text
+  unfolding moveText moveOn fromAt toAt
+  move-bytes i h =
+      let j = positionsOf text + 1 + i in
+      let line = g .move j (omega arith) (omega arith) in
+      let here : 12 + positionsOf text * 12 + i * 12 ≡ j * 12 = omega arith in
+      let next : (j + 1) * 12 ≡ 12 + positionsOf text * 12 + suc i * 12 = omega arith in
+      rw (arena-move text i h, letter-cost (letterAt text j) (line .form .allowed))
+      (ap (λ (k : ℕ). drop k text) here
+      ∙ reads-bytes text j (letterAt text j) (fromAt text j) (toAt text j) (omega (arith, lines))
+      (record { letter-is = refl; first-is = line .form .first-number; second-is = line .form .second-number; end-is = line .form .ends })
+      ∙ ap (λ (k : ℕ). chartLine (letterAt text j) (fromAt text j) (toAt text j) ++ drop k text) next)
+
+  good-faithful : chartText (arenaOf text) ≡ text
+  unfolding chartText
+  good-faithful =
+      let n = positionsOf text in
+      let m = movesOf text in
+      let positions = joined (λ v. positionText v (positionAt (arenaOf text) v)) n in
+      let moves = joined (λ i. moveText (moveAt (arenaOf text) i)) m in
+      let past : length text ≤ 12 + n * 12 + m * 12 = omega (arith, lines) in
+      rw (arena-size, arena-moves)
+      (sym
+      (header-bytes
+      ∙ ap (λ (l : List ℕ). chartLine 72 n m ++ l)
+      (joined-stands _ 12 12 text n position-bytes
+      ∙ ap (λ (l : List ℕ). positions ++ l) (joined-stands _ 12 (12 + n * 12) text m move-bytes ∙ ap (λ (l : List ℕ). moves ++ l) (drop-of-length-le text past) ∙ append-nil moves))))
 
 -- an accepted text is the text of its arena
 pub text-faithful : (text : List ℕ) (chart : Chart) → examined text ≡ Accepted chart → chartText (arenaOf text) ≡ text
@@ -105,82 +116,69 @@ pub record SetOut (a : Arena) (text : List ℕ) : Type 0 where
   pub position : (v : ℕ) → v < size a → Reads text (v + 1) (ownerLetter (ownerAt a v)) v (positionAt a v .mark)
   pub move : (i : ℕ) → i < length (a .moves) → Reads text (size a + 1 + i) (costLetter (moveAt a i .cost)) (moveAt a i .from) (moveAt a i .to)
 
-position-twelve : (i : ℕ) (p : Position) → length (positionText i p) ≡ 12
+position-twelve : (v : ℕ) (p : Position) → length (positionText v p) ≡ 12
 unfolding positionText
-position-twelve i p = line-length (ownerLetter (p .owner)) i (p .mark)
+position-twelve v p = line-length (ownerLetter (p .owner)) _
 
-move-twelve : (i : ℕ) (m : Move) → length (moveText i m) ≡ 12
+move-twelve : (m : Move) → length (moveText m) ≡ 12
 unfolding moveText
-move-twelve i m = line-length (costLetter (m .cost)) (m .from) (m .to)
+move-twelve m = line-length (costLetter (m .cost)) _
 
 module _ (a : Arena) (c : Chartable a) where
-  positionLines : List ℕ
-  positionLines = linesText positionText 0 (a .positions)
+  positionLines : ℕ → List ℕ
+  positionLines = joined (λ v. positionText v (positionAt a v))
 
-  moveLines : List ℕ
-  moveLines = linesText moveText 0 (a .moves)
+  moveLines : ℕ → List ℕ
+  moveLines = joined (λ i. moveText (moveAt a i))
 
   head : List ℕ
-  head = lineText 72 (size a) (length (a .moves))
+  head = chartLine 72 (size a) (length (a .moves))
 
-  text-parts : chartText a ≡ head ++ (positionLines ++ moveLines)
+  text-parts : chartText a ≡ head ++ (positionLines (size a) ++ moveLines (length (a .moves)))
   unfolding chartText head positionLines moveLines
   text-parts = refl
 
   head-length : length head ≡ 12
   unfolding head
-  head-length = line-length 72 (size a) (length (a .moves))
+  head-length = line-length 72 _
 
-  positions-length : length positionLines ≡ size a * 12
+  positions-length : length (positionLines (size a)) ≡ size a * 12
   unfolding positionLines
-  positions-length = lines-length positionText position-twelve (a .positions) 0
+  positions-length = joined-length _ 12 (λ v. position-twelve v (positionAt a v)) (size a)
 
-  moves-length : length moveLines ≡ length (a .moves) * 12
+  moves-length : length (moveLines (length (a .moves))) ≡ length (a .moves) * 12
   unfolding moveLines
-  moves-length = lines-length moveText move-twelve (a .moves) 0
-
-  -- what follows the header, and what follows the positions
-  after-head : (k : ℕ) → drop ((k + 1) * 12) (chartText a) ≡ drop (k * 12) (positionLines ++ moveLines)
-  after-head k =
-      let e : (k + 1) * 12 ≡ length head + k * 12 = omega (arith, head-length) in
-      ap (λ (l : List ℕ). drop ((k + 1) * 12) l) text-parts
-      ∙ ap (λ (n : ℕ). drop n (head ++ (positionLines ++ moveLines))) e
-      ∙ drop-append-add head (positionLines ++ moveLines) (k * 12)
-
-  after-positions : (k : ℕ) → drop ((size a + 1 + k) * 12) (chartText a) ≡ drop (k * 12) moveLines
-  after-positions k =
-      let e : size a + 1 + k ≡ size a + k + 1 = omega arith in
-      let f : (size a + k) * 12 ≡ length positionLines + k * 12 = omega (arith, positions-length) in
-      ap (λ (n : ℕ). drop (n * 12) (chartText a)) e
-      ∙ after-head (size a + k)
-      ∙ ap (λ (n : ℕ). drop n (positionLines ++ moveLines)) f
-      ∙ drop-append-add positionLines moveLines (k * 12)
+  moves-length = joined-length _ 12 (λ i. move-twelve (moveAt a i)) (length (a .moves))
 
   position-reads : (v : ℕ) → v < size a → Reads (chartText a) (v + 1) (ownerLetter (ownerAt a v)) v (positionAt a v .mark)
   unfolding positionLines positionText
   position-reads v h =
-      let w = lines-at positionText position-twelve (a .positions) 0 v nowhere moveLines h in
-      let e : 0 + v ≡ v = omega arith in
-      line-reads (chartText a) (v + 1) (ownerLetter (ownerAt a v)) v (positionAt a v .mark) (w .0) (omega (arith, c .few-positions)) (omega (arith, c .mark v h))
-      (after-head v ∙ w .1 ∙ ap (λ (n : ℕ). positionText n (positionAt a v) ++ w .0) e)
+      let part = joined-part _ 12 (λ u. position-twelve u (positionAt a u)) (size a) v h in
+      let moves = moveLines (length (a .moves)) in
+      bytes-read (chartText a) (head ++ positionLines v) (part .0 ++ moves) (v + 1) (ownerLetter (ownerAt a v)) v (positionAt a v .mark) (omega (arith, c .few-positions)) (omega (arith, c .mark v h))
+      (length-append head (positionLines v) ∙ omega (arith, head-length, part .2))
+      (text-parts ∙ ap (λ (l : List ℕ). head ++ (l ++ moves)) (part .1) ∙ simp append-assoc)
 
   move-reads : (i : ℕ) → i < length (a .moves) → Reads (chartText a) (size a + 1 + i) (costLetter (moveAt a i .cost)) (moveAt a i .from) (moveAt a i .to)
   unfolding moveLines moveText
   move-reads i h =
-      let w = lines-at moveText move-twelve (a .moves) 0 i noMove [] h in
+      let part = joined-part _ 12 (λ j. move-twelve (moveAt a j)) (length (a .moves)) i h in
       let member = at-member noMove (a .moves) i h in
-      line-reads (chartText a) (size a + 1 + i) (costLetter (moveAt a i .cost)) (moveAt a i .from) (moveAt a i .to) (w .0)
+      let before = head ++ (positionLines (size a) ++ moveLines i) in
+      bytes-read (chartText a) before (part .0) (size a + 1 + i) (costLetter (moveAt a i .cost)) (moveAt a i .from) (moveAt a i .to)
       (omega (arith, c .well-formed .from-position (moveAt a i) member, c .few-positions)) (omega (arith, c .well-formed .to-position (moveAt a i) member, c .few-positions))
-      (after-positions i ∙ ap (λ (l : List ℕ). drop (i * 12) l) (sym (append-nil moveLines)) ∙ w .1)
+      (length-append head _ ∙ omega (arith, head-length, length-append (positionLines (size a)) (moveLines i), positions-length, part .2))
+      (text-parts ∙ ap (λ (l : List ℕ). head ++ (positionLines (size a) ++ l)) (part .1) ∙ simp append-assoc)
 
   set-out : SetOut a (chartText a)
   unfolding head
   set-out = record {
     lines =
-        ap length text-parts ∙ length-append head (positionLines ++ moveLines)
-        ∙ omega (arith, head-length, length-append positionLines moveLines, positions-length, moves-length);
+        ap length text-parts ∙ length-append head _
+        ∙ omega (arith, head-length, length-append (positionLines (size a)) (moveLines (length (a .moves))), positions-length, moves-length);
     header =
-        line-reads (chartText a) 0 72 (size a) (length (a .moves)) (positionLines ++ moveLines) (omega (arith, c .few-positions)) (omega (arith, c .few-moves)) text-parts;
+        bytes-read (chartText a) [] (positionLines (size a) ++ moveLines (length (a .moves))) 0 72 (size a) (length (a .moves))
+        (omega (arith, c .few-positions)) (omega (arith, c .few-moves)) refl text-parts;
     position = position-reads;
     move = move-reads;
   }
@@ -195,9 +193,9 @@ unfolding costLetter
 cost-letters zero = inl refl
 cost-letters (suc cost) = inr (simp (eqb·suc-zero cost))
 
-number-again : (f : Field) (x : ℕ) → f ≡ Number x → (f ≡ Number (numberOf f)) × (numberOf f ≡ x)
-unfolding numberOf
-number-again f x e = (e ∙ ap (λ (g : Field). Number (numberOf g)) (sym e), ap numberOf e)
+number-again : (f : Field) (x : ℕ) → f ≡ Number x → (f ≡ Number (fieldNumber f)) × (fieldNumber f ≡ x)
+unfolding fieldNumber
+number-again f x e = (e ∙ ap (λ (g : Field). Number (fieldNumber g)) (sym e), ap fieldNumber e)
 
 reads-formed : (text : List ℕ) (i letter first second a b : ℕ) → Reads text i letter first second → (letter ≡ a) ⊎ (letter ≡ b) →
     Formed (letterAt text i) (firstAt text i) (secondAt text i) (endAt text i) a b
@@ -218,16 +216,6 @@ environment-letter : (o : Owner) → ownerLetter o ≡ 76 → T (mayBeDisturbed 
 unfolding ownerLetter
 environment-letter controller e t = omega arith
 environment-letter environment e t = t
-
-on-lines-list : {A : Type 0} (f : ℕ → A) (xs : List A) (i : ℕ) (d : A) → ((k : ℕ) → k < length xs → f (i + k) ≡ getD xs k d) → onLines f (length xs) i ≡ xs
-unfolding onLines
-on-lines-list f [] i d h = refl
-on-lines-list f (x ∷ xs) i d h =
-    let here : f i ≡ x = ap f (sym (add-zero i)) ∙ h 0 (omega arith) in
-    ap₂ (λ y ys. y ∷ ys) here (on-lines-list f xs (i + 1) d (λ k l. ap f (shift i k) ∙ h (suc k) (omega arith)))
-  where
-    shift : (i k : ℕ) → i + 1 + k ≡ i + suc k
-    shift i k = omega arith
 
 module _ (a : Arena) (c : Chartable a) (text : List ℕ) (s : SetOut a text) where
   counted : positionsOf text ≡ size a
@@ -261,25 +249,25 @@ module _ (a : Arena) (c : Chartable a) (text : List ℕ) (s : SetOut a text) whe
       (⊎-elim (λ l. omega (arith, s .lines, c .few-positions, c .few-moves)) (λ no. no (omega (arith, s .lines))))
 
   form-fine : (i : ℕ) → BadForm text i → ⊥
-  unfolding BadForm Allowed
+  unfolding BadForm Allowed markAt
   form-fine i bad = go (eqb i 0) (leb i (positionsOf text)) refl refl
     where
       go : (x y : Bool) → eqb i 0 ≡ x → leb i (positionsOf text) ≡ y → ⊥
       go true y u v =
           let e : 0 ≡ i = sym (eqb-true i 0 u) in
           let r = subst (λ (k : ℕ). Reads text k 72 (size a) (length (a .moves))) e (s .header) in
-          form-good text i 72 72 (inl (sym e, r .letter-is)) (reads-formed text i 72 (size a) (length (a .moves)) 72 72 r (inl refl)) bad
+          form-good text i 72 72 (secondAt text i) (other-second text i (λ q. omega (arith, q .0))) (inl (sym e, r .letter-is)) (reads-formed text i 72 (size a) (length (a .moves)) 72 72 r (inl refl)) bad
       go false true u v =
           let other : i ≡ 0 → ⊥ = eqb-false i 0 u in
           let p : PositionLine text i = (omega arith, leb-true i (positionsOf text) v) in
           let w = position-line i p in
           let f = reads-formed text i _ _ _ 79 76 (w .3) (owner-letters (ownerAt a (w .0))) in
-          form-good text i 79 76 (inr (inl (p, f .allowed))) f bad
+          form-good text i 79 76 (markAt text i) (position-second text i p) (inr (inl (p, f .allowed))) f bad
       go false false u v =
           let p : MoveLine text i = (leb-false i (positionsOf text) v, bad .0) in
           let w = move-line i p in
           let f = reads-formed text i _ _ _ 77 68 (w .3) (cost-letters (moveAt a (w .0) .cost)) in
-          form-good text i 77 68 (inr (inr (p, f .allowed))) f bad
+          form-good text i 77 68 (secondAt text i) (other-second text i (λ q. omega (arith, p .0, q .1))) (inr (inr (p, f .allowed))) f bad
 
   limits-fine : OutsideLimits text → ⊥
   unfolding OutsideLimits
@@ -340,7 +328,7 @@ module _ (a : Arena) (c : Chartable a) (text : List ℕ) (s : SetOut a text) whe
       let m = moveAt a (w .0) in
       let member = at-member noMove (a .moves) (w .0) (w .2) in
       let cost : 1 ≡ m .cost = disturbance-cost (m .cost) (c .well-formed .kind m member) (sym (w .3 .letter-is) ∙ bad .1 .0) in
-      let here : Disturbance a (m .from) (m .to) = Memᴰ·cast (λ j. record { cost = cost j; from = m .from; to = m .to }) member in
+      let here : Disturbance a (m .from) (m .to) = (0, Memᴰ·cast (λ j. record { cost = cost j; from = m .from; to = m .to }) member) in
       let from : fromAt text i ≡ m .from = number-again (firstAt text i) (m .from) (w .3 .first-is) .1 in
       let owner = s .position (m .from) (c .well-formed .from-position m member) .letter-is in
       environment-letter (ownerAt a (m .from)) (sym owner ∙ ap (λ (v : ℕ). letterAt text (v + 1)) (sym from) ∙ bad .1 .1) (c .well-formed .disturbed (m .from) (m .to) here)
@@ -367,7 +355,7 @@ module _ (a : Arena) (c : Chartable a) (text : List ℕ) (s : SetOut a text) whe
       let from : fromAt text line ≡ i - 1 = from-on (at .0) (at .1) ∙ ap (λ (m : Move). m .from) (at .2) ∙ omega (arith, w .1) in
       bad .1 line (omega (arith, counted), omega (arith, counted, moved, at .1)) letter from
 
-  none-applies : (r : Refusal) → Applies text r → ⊥
+  none-applies : (r : Misdrawn) → Applies text r → ⊥
   none-applies Length w = length-fine w
   none-applies (Form line) w = form-fine line w
   none-applies Limits w = limits-fine w

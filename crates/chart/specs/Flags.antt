@@ -9,9 +9,9 @@ use lib.ListN.{length, getD, set, replicate}
 use lib.Seq.{getD-set-same, getD-set-other}
 use lib.Dec.{ltb, eqb}
 use borrow.Author.Tests.{ltb-true, ltb-false, eqb-true, eqb-false}
-use Rattle.chart.specs.Examined.{meantLine, firstOf, meantIn, missingAt, unflaggedAt}
-use Rattle.chart.specs.First.{first-same}
-use Rattle.refusal.specs.declared.Refusal.the-variants.{NoMeant}
+use Rattle.chart.specs.Examined.{meantLine, isClean, firstFault, meantIn, missingAt, unflaggedAt}
+use Rattle.search.specs.First.{first-same}
+use Rattle.refusal.specs.declared.Misdrawn.the-variants.{NoMeant}
 use Rattle.chart.specs.declared.Finding.the-variants.{Clean, Fault}
 
 -- a flag that is set at `from`
@@ -65,5 +65,5 @@ zeros (suc count) zero = refl
 zeros (suc count) (suc v) = zeros count v
 
 -- so the first of them is the same
-pub flags-first : (text flags : List ℕ) (n m : ℕ) → ((v : ℕ) → v < n → getD flags v 0 ≡ cond (meantIn text n m v) 1 0) → firstOf (unflaggedAt flags) n 0 ≡ firstOf (missingAt text n m) n 0
-flags-first text flags n m h = first-same (unflaggedAt flags) (missingAt text n m) n 0 (λ j l k. flags-tell text flags n m j (h j (omega arith)))
+pub flags-first : (text flags : List ℕ) (n m : ℕ) → ((v : ℕ) → v < n → getD flags v 0 ≡ cond (meantIn text n m v) 1 0) → firstFault (unflaggedAt flags) n 0 ≡ firstFault (missingAt text n m) n 0
+flags-first text flags n m h = first-same _ _ (unflaggedAt flags) (missingAt text n m) Clean n 0 (λ j l k. let e = flags-tell text flags n m j (h j (omega arith)) in (ap isClean e, e))

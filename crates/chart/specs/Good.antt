@@ -2,21 +2,21 @@
 -- bytes are those of the arena's text.
 use Prim.Native.Nat.{ℕ, _+_, _-_, _%_, _≤_, _<_}
 use native.Mathlib.Omega.{arith}
-use mathlib.Core.Path.{_≡_, refl, sym, _∙_, subst}
+use mathlib.Core.Path.{_≡_, refl, sym, ap, _∙_, subst}
 use mathlib.Core.Logic.{_⊎_, inl, inr}
 use mathlib.Core.Bool.{Bool, true, false}
 use mathlib.Core.List.{List}
 use lib.ListN.{length}
 use lib.Dec.{ltb, leb, eqb}
 use borrow.Author.Tests.{ltb-false, leb-false, eqb-true, eqb-false, le-leb, lt-leb}
+use Rattle.search.specs.First.{first-ended}
 use Rattle.field.specs.declared.Field.{Field}
 use Rattle.field.specs.declared.Field.the-variants.{Number, Bad}
-use Rattle.chart.specs.Text.{letterAt, firstAt, secondAt, endAt, markAt, numberOf, isNumber, positionsOf, movesOf, fromAt, toAt}
-use Rattle.chart.specs.Examined.{numbered, formed, headerFormed, positionFormed, moveFormed, headerOf, judgedPosition, positionFinding, rises, ordered, judgedMove, moveFinding, lineFinding, orElse, firstOf, meantIn, missingAt, answer, afterHeader, linesAfter, examined}
-use Rattle.chart.specs.First.{first-clean}
+use Rattle.chart.specs.Text.{letterAt, firstAt, secondAt, endAt, markAt, fieldNumber, isNumber, positionsOf, movesOf, fromAt, toAt}
+use Rattle.chart.specs.Examined.{numbered, formed, headerFormed, positionFormed, moveFormed, headerOf, judgedPosition, positionFinding, rises, ordered, judgedMove, moveFinding, lineFinding, orElse, isClean, firstFault, meantIn, missingAt, answer, afterHeader, linesAfter, examined}
 use Rattle.chart.specs.Header.{WithinLimits, header-accepts}
-use Rattle.chart.specs.declared.Chart.{Chart}
-use Rattle.refusal.specs.declared.Refusal.{Refusal}
+use Rattle.rows.specs.declared.Chart.{Chart}
+use Rattle.refusal.specs.declared.Misdrawn.{Misdrawn}
 use Rattle.chart.specs.declared.Finding.{Finding}
 use Rattle.chart.specs.declared.Finding.the-variants.{Clean, Fault}
 use Rattle.chart.specs.declared.Examination.{Examination}
@@ -25,14 +25,14 @@ use Rattle.chart.specs.declared.Examination.the-variants.{Accepted, Refu
 -- a line of letter a or b, two numbers and a line feed
 pub record Formed (letter : ℕ) (first second : Field) (end a b : ℕ) : Type 0 where
   pub allowed : (letter ≡ a) ⊎ (letter ≡ b)
-  pub first-number : first ≡ Number (numberOf first)
-  pub second-number : second ≡ Number (numberOf second)
+  pub first-number : first ≡ Number (fieldNumber first)
+  pub second-number : second ≡ Number (fieldNumber second)
   pub ends : end ≡ 10
 
 pub record GoodPosition (text : List ℕ) (i : ℕ) : Type 0 where
   pub form : Formed (letterAt text i) (firstAt text i) (markAt text i) (endAt text i) 79 76
   pub in-order : fromAt text i ≡ i - 1
-  pub small : numberOf (markAt text i) ≤ 1
+  pub small : fieldNumber (markAt text i) ≤ 1
 
 pub record GoodMove (text : List ℕ) (n i : ℕ) : Type 0 where
   pub form : Formed (letterAt text i) (firstAt text i) (secondAt text i) (endAt text i) 77 68
@@ -52,8 +52,8 @@ pub record GoodChart (text : List ℕ) : Type 0 where
 untrue : {A : Type 0} → false ≡ true → A
 untrue e = let z : _≡_ {A = ℕ} 0 1 = cc in absurd (omega arith)
 
-is-number : (f : Field) → isNumber f ≡ true → f ≡ Number (numberOf f)
-unfolding isNumber numberOf
+is-number : (f : Field) → isNumber f ≡ true → f ≡ Number (fieldNumber f)
+unfolding isNumber fieldNumber
 is-number (Number x) e = refl
 is-number Bad e = untrue e
 
@@ -81,8 +81,17 @@ formed-true c f g e a b h = go (eqb c a) (eqb c b) refl refl
     go false true u v = build (inr (eqb-true c b v)) (simp (u, v) at h)
     go false false u v = untrue (simp (u, v) at h)
 
-faulty : {A : Type 0} (r : Refusal) → Fault r ≡ Clean → A
+pub faulty : {A : Type 0} (r : Misdrawn) → Fault r ≡ Clean → A
 faulty r e = let z : _≡_ {A = ℕ} 0 1 = cc in absurd (omega arith)
+
+pub is-clean : (d : Finding) → isClean d ≡ true → d ≡ Clean
+is-clean Clean e = refl
+is-clean (Fault r) e = untrue e
+
+-- with no first fault every finding is clean
+pub all-clean : (f : ℕ → Finding) (count i : ℕ) → firstFault f count i ≡ Clean → (j : ℕ) → i ≤ j → j < i + count → f j ≡ Clean
+all-clean f count i e j l h =
+    is-clean (f j) (first-ended (λ k. isClean (f k)) f Clean (λ k no same. untrue (sym no ∙ ap isClean same)) count i e j l h)
 
 pub position-form : (text : List ℕ) (i : ℕ) → positionFormed text i ≡ true → Formed (letterAt text i) (firstAt text i) (markAt text i) (endAt text i) 79 76
 unfolding positionFormed
@@ -98,16 +107,16 @@ header-form text h = formed-true (letterAt text 0) (firstAt text 0) (secondAt te
 
 pub position-clean : (text : List ℕ) (i : ℕ) → positionFinding text i ≡ Clean → GoodPosition text i
 unfolding positionFinding judgedPosition
-position-clean text i h = go (positionFormed text i) (eqb (fromAt text i) (i - 1)) (ltb 1 (numberOf (markAt text i))) refl refl refl
+position-clean text i h = go (positionFormed text i) (eqb (fromAt text i) (i - 1)) (ltb 1 (fieldNumber (markAt text i))) refl refl refl
   where
-    go : (p q r : Bool) → positionFormed text i ≡ p → eqb (fromAt text i) (i - 1) ≡ q → ltb 1 (numberOf (markAt text i)) ≡ r → GoodPosition text i
+    go : (p q r : Bool) → positionFormed text i ≡ p → eqb (fromAt text i) (i - 1) ≡ q → ltb 1 (fieldNumber (markAt text i)) ≡ r → GoodPosition text i
     go false q r u v w = faulty _ (simp u at h)
     go true false r u v w = faulty _ (simp (u, v) at h)
     go true true true u v w = faulty _ (simp (u, v, w) at h)
     go true true false u v w = record {
       form = position-form text i u;
       in-order = eqb-true (fromAt text i) (i - 1) v;
-      small = ltb-false 1 (numberOf (markAt text i)) w;
+      small = ltb-false 1 (fieldNumber (markAt text i)) w;
     }
 
 ordered-clean : (n i : ℕ) (rising : Bool) → ordered n i rising ≡ Clean → n < i - 1 → rising ≡ true
@@ -187,15 +196,15 @@ lines-accept text (Accepted got) chart p h =
     let n = positionsOf text in
     let m = movesOf text in
     let counts : Chart = record { positions = n; moves = m } in
-    let r = answer-accepts counts chart (firstOf (lineFinding text n) (n + m) 1) (firstOf (missingAt text n m) n 0)
+    let r = answer-accepts counts chart (firstFault (lineFinding text n) (n + m) 1) (firstFault (missingAt text n m) n 0)
     (subst (λ (k : Chart). linesAfter text (Accepted k) ≡ Accepted chart) (w .1) h) in
-    let clean = first-clean (lineFinding text n) (n + m) 1 (r .0) in (
+    let clean = all-clean (lineFinding text n) (n + m) 1 (r .0) in (
       record {
         form = header-form text (w .0 .form);
         limits = w .0;
         position = λ i l k. position-clean text i (sym (line-position text n i k) ∙ clean i l (omega arith));
         move = λ i l k. move-clean text n i (sym (line-move text n i l) ∙ clean i (omega arith) (omega arith));
-        meant = λ v k. missing-clean text n m v (first-clean (missingAt text n m) n 0 (r .1) v (omega arith) (omega arith));
+        meant = λ v k. missing-clean text n m v (all-clean (missingAt text n m) n 0 (r .1) v (omega arith) (omega arith));
       },
       r .2,
     )

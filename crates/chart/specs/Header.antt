@@ -9,7 +9,7 @@ use lib.Dec.{ltb, eqb}
 use borrow.Author.Tests.{ltb-false, eqb-true}
 use Rattle.chart.specs.Text.{positionsOf, movesOf}
 use Rattle.chart.specs.Examined.{limitsOf, headerFormed, headerOf}
-use Rattle.chart.specs.declared.Chart.{Chart}
+use Rattle.rows.specs.declared.Chart.{Chart}
 use Rattle.chart.specs.declared.Examination.the-variants.{Accepted, Refused}
 
 pub record WithinLimits (ok : Bool) (size n m : ℕ) : Type 0 where
@@ -20,7 +20,7 @@ pub record WithinLimits (ok : Bool) (size n m : ℕ) : Type 0 where
   pub moves : m ≤ 4096
   pub lines : size ≡ (1 + n + m) * 12
 
-refused : (r : Rattle.refusal.specs.declared.Refusal.Refusal) (chart : Chart) → Refused r ≡ Accepted chart → ⊥
+refused : (r : Rattle.refusal.specs.declared.Misdrawn.Misdrawn) (chart : Chart) → Refused r ≡ Accepted chart → ⊥
 refused r chart e = let z : _≡_ {A = ℕ} 0 1 = cc in omega arith
 
 limits-accept : (ok : Bool) (size n m : ℕ) (chart : Chart) → limitsOf ok size n m ≡ Accepted chart → WithinLimits ok size n m × (chart ≡ record { positions = n; moves = m })

@@ -6,7 +6,6 @@ pub mod Examined
 -- Laws that callers cite: Exact (refusals), Accepted (the arena of an accepted text), Faithful (texts and arenas).
 -- The others lead to them.
 pub mod Columns
-pub mod First
 pub mod Flags
 pub mod Header
 pub mod Good

@@ -1,9 +1,9 @@
--- The finding of one line is exact: a fault is the lowest refusal that applies to the line, and a clean line has none. Each case of
+-- The finding of one line is exact: a fault is the first refusal in the order that applies to the line, and a clean line has none. Each case of
 -- the computed finding says which conditions hold and which don't; no other refusal can stand on a line of that kind.
 use Prim.Native.Nat.{ℕ, _+_, _-_, _*_, _≤_, _<_}
 use native.Mathlib.Omega.{arith}
 use mathlib.Core.Path.{_≡_, refl, sym, _∙_, subst}
-use mathlib.Core.Logic.{_⊎_, inl, inr, ⊎-elim}
+use mathlib.Core.Logic.{_⊎_, inl, inr, ⊎-elim, _↔_}
 use mathlib.Core.Bool.{Bool, true, false}
 use mathlib.Core.List.{List}
 use lib.ListN.{length}
@@ -12,40 +12,39 @@ use borrow.Author.Tests.{ltb-true, ltb-false, leb-true, leb-false, eqb-true, eqb
 use Rattle.game.specs.Arena.{Move}
 use Rattle.field.specs.declared.Field.{Field}
 use Rattle.field.specs.declared.Field.the-variants.{Number, Bad}
-use Rattle.chart.specs.Text.{letterAt, firstAt, secondAt, endAt, markAt, numberOf, isNumber, positionsOf, movesOf, fromAt, toAt}
+use Rattle.chart.specs.Text.{letterAt, firstAt, secondAt, endAt, markAt, fieldNumber, isNumber, positionsOf, movesOf, fromAt, toAt}
 use Rattle.chart.specs.Meaning.{moveOn, Rises}
-use Rattle.refusal.specs.Numbers.{refusalNumber, refusalLine}
-use Rattle.chart.specs.Refusals.{stage, PositionLine, MoveLine, BadForm, Allowed, OutsideLimits, WrongCount, OutOfSequence, BadEndpoint, BadDisturbance, OutOfOrder, Applies}
+use Rattle.refusal.specs.Numbers.{misdrawnLine}
+use Rattle.chart.specs.Refusals.{stage, rank, PositionLine, MoveLine, BadSecond, BadForm, Allowed, OutsideLimits, WrongCount, OutOfSequence, BadEndpoint, BadDisturbance, OutOfOrder, Applies}
 use Rattle.chart.specs.Examined.{numbered, formed, headerFormed, positionFormed, moveFormed, limitsOf, headerOf, judgedPosition, positionFinding, above, rises, ordered, judgedMove, moveFinding, lineFinding}
 use Rattle.chart.specs.Good.{Formed, position-form, move-form, header-form, line-position, line-move}
 use Rattle.chart.specs.Accepted.{line-rises}
-use Rattle.refusal.specs.declared.Refusal.{Refusal}
-use Rattle.refusal.specs.declared.Refusal.the-variants.{Length, Form, Limits, Count, Sequence, Endpoint, Disturbed, Order, NoMeant}
+use Rattle.refusal.specs.declared.Misdrawn.{Misdrawn}
+use Rattle.refusal.specs.declared.Misdrawn.the-variants.{Length, Form, Limits, Count, Sequence, Endpoint, Disturbed, Order, NoMeant}
 use Rattle.chart.specs.declared.Finding.{Finding}
 use Rattle.chart.specs.declared.Finding.the-variants.{Clean, Fault}
 use Rattle.chart.specs.declared.Examination.{Examination}
 use Rattle.chart.specs.declared.Examination.the-variants.{Accepted, Refused}
 
--- no refusal of a line with a number below `bound` applies
-abbrev pub Free : List ℕ → ℕ → ℕ → Type 0
-Free text i bound = (s : Refusal) → stage s ≡ 1 → refusalLine s ≡ i → refusalNumber s < bound → Applies text s → ⊥
+-- what must not apply to a line with this finding: beside a fault what is before it, to a clean line anything
+abbrev pub Earlier : Finding → Misdrawn → Type 0
+Earlier Clean s = Unit {0}
+Earlier (Fault r) s = rank s < rank r
 
--- all of the table's numbers are below 10
-abbrev pub boundOf : Finding → ℕ
-boundOf Clean = 10
-boundOf (Fault r) = refusalNumber r
+abbrev pub Free : List ℕ → ℕ → Finding → Type 0
+Free text i d = (s : Misdrawn) → stage s ≡ 1 → misdrawnLine s ≡ i → Earlier d s → Applies text s → ⊥
 
 pub record LineExact (text : List ℕ) (i : ℕ) (d : Finding) : Type 0 where
-  pub free : Free text i (boundOf d)
-  pub fault : (r : Refusal) → d ≡ Fault r → (stage r ≡ 1) × (refusalLine r ≡ i) × Applies text r
+  pub free : Free text i d
+  pub fault : (r : Misdrawn) → d ≡ Fault r → (stage r ≡ 1) × (misdrawnLine r ≡ i) × Applies text r
 
-clean-exact : (text : List ℕ) (i : ℕ) → Free text i 10 → LineExact text i Clean
+clean-exact : (text : List ℕ) (i : ℕ) → Free text i Clean → LineExact text i Clean
 clean-exact text i free = record { free = free; fault = λ r e. let z : _≡_ {A = ℕ} 0 1 = cc in absurd (omega arith) }
 
-fault-exact : (text : List ℕ) (i : ℕ) (r : Refusal) → stage r ≡ 1 → refusalLine r ≡ i → Applies text r → Free text i (refusalNumber r) → LineExact text i (Fault r)
+fault-exact : (text : List ℕ) (i : ℕ) (r : Misdrawn) → stage r ≡ 1 → misdrawnLine r ≡ i → Applies text r → Free text i (Fault r) → LineExact text i (Fault r)
 fault-exact text i r p q a free = record {
   free = free;
-  fault = λ s e. let same : r ≡ s = cc in subst (λ (x : Refusal). (stage x ≡ 1) × (refusalLine x ≡ i) × Applies text x) same (p, q, a);
+  fault = λ s e. let same : r ≡ s = cc in subst (λ (x : Misdrawn). (stage x ≡ 1) × (misdrawnLine x ≡ i) × Applies text x) same (p, q, a);
 }
 
 -- the form of a line, both ways
@@ -79,56 +78,59 @@ formed-false c f g e a b h = go (eqb c a) (eqb c b) refl refl
 number-not-bad : (f : Field) (x : ℕ) → f ≡ Number x → f ≡ Bad → ⊥
 number-not-bad f x p q = let z : _≡_ {A = ℕ} 0 1 = cc in omega arith
 
-pub form-good : (text : List ℕ) (i a b : ℕ) → Allowed text i (letterAt text i) → Formed (letterAt text i) (firstAt text i) (secondAt text i) (endAt text i) a b → BadForm text i → ⊥
+-- the second field of each kind of line
+pub position-second : (text : List ℕ) (i : ℕ) → PositionLine text i → BadSecond text i ↔ (markAt text i ≡ Bad)
+unfolding BadSecond
+position-second text i p = (⊎-elim (λ w. w .1) (λ w. absurd (w .0 p)), λ e. inl (p, e))
+
+pub other-second : (text : List ℕ) (i : ℕ) → (PositionLine text i → ⊥) → BadSecond text i ↔ (secondAt text i ≡ Bad)
+unfolding BadSecond
+other-second text i not = (⊎-elim (λ w. absurd (not (w .0))) (λ w. w .1), λ e. inr (not, e))
+
+pub form-good : (text : List ℕ) (i a b : ℕ) (second : Field) → BadSecond text i ↔ (second ≡ Bad) → Allowed text i (letterAt text i) →
+    Formed (letterAt text i) (firstAt text i) second (endAt text i) a b → BadForm text i → ⊥
 unfolding BadForm
-form-good text i a b allowed w bad =
+form-good text i a b second same allowed w bad =
     ⊎-elim (λ no. no allowed)
     (⊎-elim (λ e. number-not-bad (firstAt text i) _ (w .first-number) e)
-    (⊎-elim (λ e. number-not-bad (secondAt text i) _ (w .second-number) e) (λ no. no (w .ends))))
+    (⊎-elim (λ e. number-not-bad second _ (w .second-number) (same .0 e)) (λ no. no (w .ends))))
     (bad .1)
 
-form-bad : (text : List ℕ) (i a b : ℕ) → i ≤ positionsOf text + movesOf text → (Allowed text i (letterAt text i) → (letterAt text i ≡ a) ⊎ (letterAt text i ≡ b)) →
-    Misformed (letterAt text i) (firstAt text i) (secondAt text i) (endAt text i) a b → BadForm text i
+form-bad : (text : List ℕ) (i a b : ℕ) (second : Field) → BadSecond text i ↔ (second ≡ Bad) → i ≤ positionsOf text + movesOf text →
+    (Allowed text i (letterAt text i) → (letterAt text i ≡ a) ⊎ (letterAt text i ≡ b)) → Misformed (letterAt text i) (firstAt text i) second (endAt text i) a b → BadForm text i
 unfolding BadForm Misformed
-form-bad text i a b inside only w = (inside, ⊎-elim (λ no. inl (λ allowed. ⊎-elim (no .0) (no .1) (only allowed))) inr w)
+form-bad text i a b second same inside only w =
+    (inside, ⊎-elim (λ no. inl (λ allowed. ⊎-elim (no .0) (no .1) (only allowed))) (λ x. inr (⊎-elim inl (λ y. inr (⊎-elim (λ e. inl (same .1 e)) inr y)) x)) w)
 
--- which refusals can stand on a position line, on a move line and on the header
-position-free : (text : List ℕ) (i bound : ℕ) → PositionLine text i → (2 < bound → BadForm text i → ⊥) → (5 < bound → OutOfSequence text i → ⊥) → Free text i bound
+-- on line i nothing before this finding applies, if none of those that can stand there does
+line-free : (text : List ℕ) (i : ℕ) (d : Finding) → (Earlier d (Form i) → BadForm text i → ⊥) →
+    (i ≡ 0 → (Earlier d Limits → OutsideLimits text → ⊥) × (Earlier d Count → WrongCount text → ⊥)) → (Earlier d (Sequence i) → OutOfSequence text i → ⊥) →
+    (Earlier d (Endpoint i) → BadEndpoint text i → ⊥) → (Earlier d (Disturbed i) → BadDisturbance text i → ⊥) → (Earlier d (Order i) → OutOfOrder text i → ⊥) → Free text i d
+line-free text i d form first sequence endpoint disturbed order Length a e l w = omega arith
+line-free text i d form first sequence endpoint disturbed order (Form line) a e l w = subst (λ (k : ℕ). Earlier d (Form k) → BadForm text k → ⊥) (sym e) form l w
+line-free text i d form first sequence endpoint disturbed order Limits a e l w = first (sym e) .0 l w
+line-free text i d form first sequence endpoint disturbed order Count a e l w = first (sym e) .1 l w
+line-free text i d form first sequence endpoint disturbed order (Sequence line) a e l w = subst (λ (k : ℕ). Earlier d (Sequence k) → OutOfSequence text k → ⊥) (sym e) sequence l w
+line-free text i d form first sequence endpoint disturbed order (Endpoint line) a e l w = subst (λ (k : ℕ). Earlier d (Endpoint k) → BadEndpoint text k → ⊥) (sym e) endpoint l w
+line-free text i d form first sequence endpoint disturbed order (Disturbed line) a e l w = subst (λ (k : ℕ). Earlier d (Disturbed k) → BadDisturbance text k → ⊥) (sym e) disturbed l w
+line-free text i d form first sequence endpoint disturbed order (Order line) a e l w = subst (λ (k : ℕ). Earlier d (Order k) → OutOfOrder text k → ⊥) (sym e) order l w
+line-free text i d form first sequence endpoint disturbed order (NoMeant line) a e l w = omega arith
+
+-- so on a position line, on a move line and on the header
+position-free : (text : List ℕ) (i : ℕ) (d : Finding) → PositionLine text i → (Earlier d (Form i) → BadForm text i → ⊥) → (Earlier d (Sequence i) → OutOfSequence text i → ⊥) → Free text i d
 unfolding BadEndpoint BadDisturbance OutOfOrder
-position-free text i bound p form sequence Length a e l w = omega arith
-position-free text i bound p form sequence (Form line) a e l w = form l (subst (BadForm text) e w)
-position-free text i bound p form sequence Limits a e l w = omega (arith, p .0)
-position-free text i bound p form sequence Count a e l w = omega (arith, p .0)
-position-free text i bound p form sequence (Sequence line) a e l w = sequence l (subst (OutOfSequence text) e w)
-position-free text i bound p form sequence (Endpoint line) a e l w = omega (arith, p .1, w .0 .0)
-position-free text i bound p form sequence (Disturbed line) a e l w = omega (arith, p .1, w .0 .0)
-position-free text i bound p form sequence (Order line) a e l w = omega (arith, p .1, w .0 .0)
-position-free text i bound p form sequence (NoMeant line) a e l w = omega arith
+position-free text i d p form sequence =
+    line-free text i d form (λ z. absurd (omega (arith, p .0))) sequence (λ l w. omega (arith, p .1, w .0 .0)) (λ l w. omega (arith, p .1, w .0 .0)) (λ l w. omega (arith, p .1, w .0 .0))
 
-move-free : (text : List ℕ) (i bound : ℕ) → MoveLine text i → (2 < bound → BadForm text i → ⊥) → (6 < bound → BadEndpoint text i → ⊥) →
-    (7 < bound → BadDisturbance text i → ⊥) → (8 < bound → OutOfOrder text i → ⊥) → Free text i bound
+move-free : (text : List ℕ) (i : ℕ) (d : Finding) → MoveLine text i → (Earlier d (Form i) → BadForm text i → ⊥) → (Earlier d (Endpoint i) → BadEndpoint text i → ⊥) →
+    (Earlier d (Disturbed i) → BadDisturbance text i → ⊥) → (Earlier d (Order i) → OutOfOrder text i → ⊥) → Free text i d
 unfolding OutOfSequence
-move-free text i bound p form endpoint disturbed order Length a e l w = omega arith
-move-free text i bound p form endpoint disturbed order (Form line) a e l w = form l (subst (BadForm text) e w)
-move-free text i bound p form endpoint disturbed order Limits a e l w = omega (arith, p .0)
-move-free text i bound p form endpoint disturbed order Count a e l w = omega (arith, p .0)
-move-free text i bound p form endpoint disturbed order (Sequence line) a e l w = omega (arith, p .0, w .0 .1)
-move-free text i bound p form endpoint disturbed order (Endpoint line) a e l w = endpoint l (subst (BadEndpoint text) e w)
-move-free text i bound p form endpoint disturbed order (Disturbed line) a e l w = disturbed l (subst (BadDisturbance text) e w)
-move-free text i bound p form endpoint disturbed order (Order line) a e l w = order l (subst (OutOfOrder text) e w)
-move-free text i bound p form endpoint disturbed order (NoMeant line) a e l w = omega arith
+move-free text i d p form endpoint disturbed order = line-free text i d form (λ z. absurd (omega (arith, p .0))) (λ l w. omega (arith, p .0, w .0 .1)) endpoint disturbed order
 
-header-free : (text : List ℕ) (bound : ℕ) → (2 < bound → BadForm text 0 → ⊥) → (3 < bound → OutsideLimits text → ⊥) → (4 < bound → WrongCount text → ⊥) → Free text 0 bound
+header-free : (text : List ℕ) (d : Finding) → (Earlier d (Form 0) → BadForm text 0 → ⊥) → (Earlier d Limits → OutsideLimits text → ⊥) → (Earlier d Count → WrongCount text → ⊥) → Free text 0 d
 unfolding OutOfSequence BadEndpoint BadDisturbance OutOfOrder
-header-free text bound form limits count Length a e l w = omega arith
-header-free text bound form limits count (Form line) a e l w = form l (subst (BadForm text) e w)
-header-free text bound form limits count Limits a e l w = limits l w
-header-free text bound form limits count Count a e l w = count l w
-header-free text bound form limits count (Sequence line) a e l w = omega (arith, w .0 .0)
-header-free text bound form limits count (Endpoint line) a e l w = omega (arith, w .0 .0)
-header-free text bound form limits count (Disturbed line) a e l w = omega (arith, w .0 .0)
-header-free text bound form limits count (Order line) a e l w = omega (arith, w .0 .0)
-header-free text bound form limits count (NoMeant line) a e l w = omega arith
+header-free text d form limits count =
+    line-free text 0 d form (λ z. (limits, count)) (λ l w. omega (arith, w .0 .0)) (λ l w. omega (arith, w .0 .0)) (λ l w. omega (arith, w .0 .0)) (λ l w. omega (arith, w .0 .0))
 
 -- the letters of each kind of line
 position-letters : (text : List ℕ) (i letter : ℕ) → PositionLine text i → Allowed text i letter → (letter ≡ 79) ⊎ (letter ≡ 76)
@@ -147,36 +149,36 @@ header-letters text letter =
     ⊎-elim (λ w. inl (w .1)) (⊎-elim (λ w. absurd (omega (arith, w .0 .0))) (λ w. absurd (omega (arith, w .0 .0))))
 
 position-bad : (text : List ℕ) (i : ℕ) → PositionLine text i → positionFormed text i ≡ false → BadForm text i
-unfolding positionFormed markAt
+unfolding positionFormed
 position-bad text i p h =
-    form-bad text i 79 76 (omega (arith, p .1)) (position-letters text i (letterAt text i) p)
-    (formed-false (letterAt text i) (firstAt text i) (secondAt text i) (endAt text i) 79 76 h)
+    form-bad text i 79 76 (markAt text i) (position-second text i p) (omega (arith, p .1)) (position-letters text i (letterAt text i) p)
+    (formed-false (letterAt text i) (firstAt text i) (markAt text i) (endAt text i) 79 76 h)
 
 position-good : (text : List ℕ) (i : ℕ) → PositionLine text i → positionFormed text i ≡ true → BadForm text i → ⊥
-unfolding markAt Allowed
+unfolding Allowed
 position-good text i p h =
     let w = position-form text i h in
-    form-good text i 79 76 (inr (inl (p, w .allowed))) w
+    form-good text i 79 76 (markAt text i) (position-second text i p) (inr (inl (p, w .allowed))) w
 
 position-exact : (text : List ℕ) (i : ℕ) → PositionLine text i → LineExact text i (positionFinding text i)
 unfolding positionFinding judgedPosition OutOfSequence
-position-exact text i p = go (positionFormed text i) (eqb (fromAt text i) (i - 1)) (ltb 1 (numberOf (markAt text i))) refl refl refl
+position-exact text i p = go (positionFormed text i) (eqb (fromAt text i) (i - 1)) (ltb 1 (fieldNumber (markAt text i))) refl refl refl
   where
-    go : (b c d : Bool) → positionFormed text i ≡ b → eqb (fromAt text i) (i - 1) ≡ c → ltb 1 (numberOf (markAt text i)) ≡ d → LineExact text i (positionFinding text i)
-    go false c d u v w = simp u (fault-exact text i (Form i) refl refl (position-bad text i p u) (position-free text i 2 p (λ l. omega arith) (λ l. omega arith)))
+    go : (b c d : Bool) → positionFormed text i ≡ b → eqb (fromAt text i) (i - 1) ≡ c → ltb 1 (fieldNumber (markAt text i)) ≡ d → LineExact text i (positionFinding text i)
+    go false c d u v w = simp u (fault-exact text i (Form i) refl refl (position-bad text i p u) (position-free text i (Fault (Form i)) p (λ l. omega arith) (λ l. omega arith)))
     go true false d u v w =
         simp (u, v)
         (fault-exact text i (Sequence i) refl refl (p, inl (eqb-false (fromAt text i) (i - 1) v))
-        (position-free text i 5 p (λ l. position-good text i p u) (λ l. omega arith)))
+        (position-free text i (Fault (Sequence i)) p (λ l. position-good text i p u) (λ l. omega arith)))
     go true true true u v w =
         simp (u, v, w)
-        (fault-exact text i (Sequence i) refl refl (p, inr (ltb-true 1 (numberOf (markAt text i)) w))
-        (position-free text i 5 p (λ l. position-good text i p u) (λ l. omega arith)))
+        (fault-exact text i (Sequence i) refl refl (p, inr (ltb-true 1 (fieldNumber (markAt text i)) w))
+        (position-free text i (Fault (Sequence i)) p (λ l. position-good text i p u) (λ l. omega arith)))
     go true true false u v w =
         simp (u, v, w)
         (clean-exact text i
-        (position-free text i 10 p (λ l. position-good text i p u)
-        (λ l bad. ⊎-elim (λ no. no (eqb-true (fromAt text i) (i - 1) v)) (λ high. omega (arith, ltb-false 1 (numberOf (markAt text i)) w)) (bad .1))))
+        (position-free text i Clean p (λ l. position-good text i p u)
+        (λ l bad. ⊎-elim (λ no. no (eqb-true (fromAt text i) (i - 1) v)) (λ high. omega (arith, ltb-false 1 (fieldNumber (markAt text i)) w)) (bad .1))))
 
 -- the order of moves is the test of two moves
 rises-above : (a b : Move) → Rises a b → above (a .from) (a .cost) (a .to) (b .from) (b .cost) (b .to) ≡ true
@@ -205,14 +207,14 @@ rises-line text i w = rises-above (moveOn text (i - 1)) (moveOn text i) w
 move-bad : (text : List ℕ) (i : ℕ) → MoveLine text i → moveFormed text i ≡ false → BadForm text i
 unfolding moveFormed
 move-bad text i p h =
-    form-bad text i 77 68 (p .1) (move-letters text i (letterAt text i) p)
+    form-bad text i 77 68 (secondAt text i) (other-second text i (λ q. omega (arith, p .0, q .1))) (p .1) (move-letters text i (letterAt text i) p)
     (formed-false (letterAt text i) (firstAt text i) (secondAt text i) (endAt text i) 77 68 h)
 
 move-good : (text : List ℕ) (i : ℕ) → MoveLine text i → moveFormed text i ≡ true → BadForm text i → ⊥
 unfolding Allowed
 move-good text i p h =
     let w = move-form text i h in
-    form-good text i 77 68 (inr (inr (p, w .allowed))) w
+    form-good text i 77 68 (secondAt text i) (other-second text i (λ q. omega (arith, p .0, q .1))) (inr (inr (p, w .allowed))) w
 
 contrary : {A : Type 0} → false ≡ true → A
 contrary e = let z : _≡_ {A = ℕ} 0 1 = cc in absurd (omega arith)
@@ -222,17 +224,17 @@ order-exact : (text : List ℕ) (i : ℕ) → MoveLine text i → (BadForm text 
 unfolding ordered OutOfOrder
 order-exact text i p form endpoint disturbed = go (leb (i - 1) (positionsOf text)) (rises text i) refl refl
   where
-    free : (bound : ℕ) → (8 < bound → OutOfOrder text i → ⊥) → Free text i bound
-    free bound order = move-free text i bound p (λ l. form) (λ l. endpoint) (λ l. disturbed) order
+    free : (d : Finding) → (Earlier d (Order i) → OutOfOrder text i → ⊥) → Free text i d
+    free d order = move-free text i d p (λ l. form) (λ l. endpoint) (λ l. disturbed) order
 
     go : (b c : Bool) → leb (i - 1) (positionsOf text) ≡ b → rises text i ≡ c → LineExact text i (ordered (positionsOf text) i (rises text i))
-    go true c u v = simp u (clean-exact text i (free 10 (λ l w. omega (arith, leb-true (i - 1) (positionsOf text) u, w .1 .0 .0))))
-    go false true u v = simp (u, v) (clean-exact text i (free 10 (λ l w. w .1 .1 (line-rises text i v))))
+    go true c u v = simp u (clean-exact text i (free Clean (λ l w. omega (arith, leb-true (i - 1) (positionsOf text) u, w .1 .0 .0))))
+    go false true u v = simp (u, v) (clean-exact text i (free Clean (λ l w. w .1 .1 (line-rises text i v))))
     go false false u v =
         simp (u, v)
         (fault-exact text i (Order i) refl refl
         (p, ((leb-false (i - 1) (positionsOf text) u, omega (arith, p .1)), λ w. contrary (sym v ∙ rises-line text i w)))
-        (free 8 (λ l. omega arith)))
+        (free (Fault (Order i)) (λ l. omega arith)))
 
 move-exact : (text : List ℕ) (i : ℕ) → MoveLine text i → LineExact text i (moveFinding text (positionsOf text) i)
 unfolding moveFinding judgedMove BadEndpoint BadDisturbance
@@ -249,19 +251,19 @@ move-exact text i p =
     go false c d e f u v w x y =
         simp u
         (fault-exact text i (Form i) refl refl (move-bad text i p u)
-        (move-free text i 2 p (λ l. omega arith) (λ l. omega arith) (λ l. omega arith) (λ l. omega arith)))
+        (move-free text i (Fault (Form i)) p (λ l. omega arith) (λ l. omega arith) (λ l. omega arith) (λ l. omega arith)))
     go true true d e f u v w x y =
         simp (u, v)
         (fault-exact text i (Endpoint i) refl refl (p, inl (leb-true (positionsOf text) (fromAt text i) v))
-        (move-free text i 6 p (λ l. move-good text i p u) (λ l. omega arith) (λ l. omega arith) (λ l. omega arith)))
+        (move-free text i (Fault (Endpoint i)) p (λ l. move-good text i p u) (λ l. omega arith) (λ l. omega arith) (λ l. omega arith)))
     go true false true e f u v w x y =
         simp (u, v, w)
         (fault-exact text i (Endpoint i) refl refl (p, inr (leb-true (positionsOf text) (toAt text i) w))
-        (move-free text i 6 p (λ l. move-good text i p u) (λ l. omega arith) (λ l. omega arith) (λ l. omega arith)))
+        (move-free text i (Fault (Endpoint i)) p (λ l. move-good text i p u) (λ l. omega arith) (λ l. omega arith) (λ l. omega arith)))
     go true false false true true u v w x y =
         simp (u, v, w, x, y)
         (fault-exact text i (Disturbed i) refl refl (p, (eqb-true (letterAt text i) 68 x, eqb-true (letterAt text (fromAt text i + 1)) 76 y))
-        (move-free text i 7 p (λ l. move-good text i p u) (λ l. inside v w) (λ l. omega arith) (λ l. omega arith)))
+        (move-free text i (Fault (Disturbed i)) p (λ l. move-good text i p u) (λ l. inside v w) (λ l. omega arith) (λ l. omega arith)))
     go true false false true false u v w x y =
         simp (u, v, w, x, y) (order-exact text i p (move-good text i p u) (inside v w) (λ bad. eqb-false (letterAt text (fromAt text i + 1)) 76 y (bad .1 .1)))
     go true false false false f u v w x y =
@@ -275,14 +277,14 @@ findingOf (Refused r) = Fault r
 header-bad : (text : List ℕ) → headerFormed text ≡ false → BadForm text 0
 unfolding headerFormed
 header-bad text h =
-    form-bad text 0 72 72 (omega arith) (header-letters text (letterAt text 0))
+    form-bad text 0 72 72 (secondAt text 0) (other-second text 0 (λ q. omega (arith, q .0))) (omega arith) (header-letters text (letterAt text 0))
     (formed-false (letterAt text 0) (firstAt text 0) (secondAt text 0) (endAt text 0) 72 72 h)
 
 header-good : (text : List ℕ) → headerFormed text ≡ true → BadForm text 0 → ⊥
 unfolding Allowed
 header-good text h =
     let w = header-form text h in
-    form-good text 0 72 72 (inl (refl, ⊎-elim (λ e. e) (λ e. e) (w .allowed))) w
+    form-good text 0 72 72 (secondAt text 0) (other-second text 0 (λ q. omega (arith, q .0))) (inl (refl, ⊎-elim (λ e. e) (λ e. e) (w .allowed))) w
 
 inside-limits : (text : List ℕ) → ltb (positionsOf text) 1 ≡ false → ltb 512 (positionsOf text) ≡ false → ltb (movesOf text) 1 ≡ false → ltb 4096 (movesOf text) ≡ false → OutsideLimits text → ⊥
 unfolding OutsideLimits
@@ -303,12 +305,12 @@ header-exact text =
     m = movesOf text
 
     outside : headerFormed text ≡ true → OutsideLimits text → LineExact text 0 (Fault Limits)
-    outside u w = fault-exact text 0 Limits refl refl w (header-free text 3 (λ l. header-good text u) (λ l. omega arith) (λ l. omega arith))
+    outside u w = fault-exact text 0 Limits refl refl w (header-free text (Fault Limits) (λ l. header-good text u) (λ l. omega arith) (λ l. omega arith))
 
     go : (a b c d e f : Bool) → headerFormed text ≡ a → ltb n 1 ≡ b → ltb 512 n ≡ c → ltb m 1 ≡ d → ltb 4096 m ≡ e → eqb (length text) ((1 + n + m) * 12) ≡ f →
         LineExact text 0 (findingOf (headerOf text))
     go false b c d e f u v w x y z =
-        simp u (fault-exact text 0 (Form 0) refl refl (header-bad text u) (header-free text 2 (λ l. omega arith) (λ l. omega arith) (λ l. omega arith)))
+        simp u (fault-exact text 0 (Form 0) refl refl (header-bad text u) (header-free text (Fault (Form 0)) (λ l. omega arith) (λ l. omega arith) (λ l. omega arith)))
     go true true c d e f u v w x y z = simp (u, v) (outside u (inl (ltb-true n 1 v)))
     go true false true d e f u v w x y z = simp (u, v, w) (outside u (inr (inl (ltb-true 512 n w))))
     go true false false true e f u v w x y z = simp (u, v, w, x) (outside u (inr (inr (inl (ltb-true m 1 x)))))
@@ -316,11 +318,11 @@ header-exact text =
     go true false false false false false u v w x y z =
         simp (u, v, w, x, y, z)
         (fault-exact text 0 Count refl refl (eqb-false (length text) ((1 + n + m) * 12) z)
-        (header-free text 4 (λ l. header-good text u) (λ l. inside-limits text v w x y) (λ l. omega arith)))
+        (header-free text (Fault Count) (λ l. header-good text u) (λ l. inside-limits text v w x y) (λ l. omega arith)))
     go true false false false false true u v w x y z =
         simp (u, v, w, x, y, z)
         (clean-exact text 0
-        (header-free text 10 (λ l. header-good text u) (λ l. inside-limits text v w x y) (λ l no. no (eqb-true (length text) ((1 + n + m) * 12) z))))
+        (header-free text Clean (λ l. header-good text u) (λ l. inside-limits text v w x y) (λ l no. no (eqb-true (length text) ((1 + n + m) * 12) z))))
 
 pub line-exact : (text : List ℕ) (i : ℕ) → 1 ≤ i → i ≤ positionsOf text + movesOf text → LineExact text i (lineFinding text (positionsOf text) i)
 line-exact text i l h = go (leb i (positionsOf text)) refl

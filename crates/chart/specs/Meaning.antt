@@ -1,14 +1,16 @@
 -- The arena that a chart's text means, and the text of an arena (document 01, "The chart").
-use Prim.Native.Nat.{ℕ, zero, suc, _+_, _≤_, _<_}
+use Prim.Native.Nat.{ℕ, _+_, _≤_, _<_}
 use mathlib.Core.Path.{_≡_}
 use mathlib.Core.Logic.{_⊎_}
 use mathlib.Core.Bool.{cond}
 use mathlib.Core.List.{List, [], _∷_, _++_}
 use lib.ListN.{length}
 use lib.Dec.{eqb}
-use Rattle.field.specs.Text.{numberText}
+use Rattle.line.specs.Text.{lineText}
+use Rattle.line.specs.Joined.{joined, onLines}
+use Rattle.line.specs.declared.Entry.the-variants.{Number}
 use Rattle.game.specs.Arena.{Arena, Position, Move, Owner, controller, environment, size, positionAt, moveAt, WellFormed}
-use Rattle.chart.specs.Text.{letterAt, markAt, numberOf, positionsOf, movesOf, fromAt, toAt}
+use Rattle.chart.specs.Text.{letterAt, markAt, fieldNumber, positionsOf, movesOf, fromAt, toAt}
 
 -- "`O` (the console chooses) or `L` (the lane chooses)"
 unfoldable pub ownerOf : ℕ → Owner
@@ -27,15 +29,10 @@ costLetter cost = cond (eqb cost 0) 77 68
 
 -- the position on line i, and the move on line i
 unfoldable pub positionOn : List ℕ → ℕ → Position
-positionOn text i = record { owner = ownerOf (letterAt text i); mark = numberOf (markAt text i) }
+positionOn text i = record { owner = ownerOf (letterAt text i); mark = fieldNumber (markAt text i) }
 
 unfoldable pub moveOn : List ℕ → ℕ → Move
 moveOn text i = record { cost = costOf (letterAt text i); from = fromAt text i; to = toAt text i }
-
--- f of each of `count` lines from line i on
-unfoldable pub onLines : {A : Type 0} → (ℕ → A) → ℕ → ℕ → List A
-onLines f zero i = []
-onLines f (suc count) i = f i ∷ onLines f count (i + 1)
 
 -- "Then n position lines", "Then m move lines"
 unfoldable pub arenaOf : List ℕ → Arena
@@ -45,25 +42,21 @@ arenaOf text = record {
 }
 
 -- one line: "one letter, two fields of five bytes, a line feed (byte 10)"
-unfoldable pub lineText : ℕ → ℕ → ℕ → List ℕ
-lineText letter first second = letter ∷ (numberText first ++ (numberText second ++ (10 ∷ [])))
+abbrev pub chartLine : ℕ → ℕ → ℕ → List ℕ
+chartLine letter first second = lineText letter (Number first ∷ Number second ∷ [])
 
 -- the line of position v, and of a move
 unfoldable pub positionText : ℕ → Position → List ℕ
-positionText v p = lineText (ownerLetter (p .owner)) v (p .mark)
+positionText v p = chartLine (ownerLetter (p .owner)) v (p .mark)
 
-unfoldable pub moveText : ℕ → Move → List ℕ
-moveText i m = lineText (costLetter (m .cost)) (m .from) (m .to)
-
--- the lines of a list, numbered from i
-unfoldable pub linesText : {A : Type 0} → (ℕ → A → List ℕ) → ℕ → List A → List ℕ
-linesText f i [] = []
-linesText f i (x ∷ xs) = f i x ++ linesText f (i + 1) xs
+unfoldable pub moveText : Move → List ℕ
+moveText m = chartLine (costLetter (m .cost)) (m .from) (m .to)
 
 -- "First line: `H`, the count n of positions, the count m of moves", then the position lines and the move lines
 unfoldable pub chartText : Arena → List ℕ
 chartText a =
-    lineText 72 (size a) (length (a .moves)) ++ (linesText positionText 0 (a .positions) ++ linesText moveText 0 (a .moves))
+    chartLine 72 (size a) (length (a .moves))
+    ++ (joined (λ v. positionText v (positionAt a v)) (size a) ++ joined (λ i. moveText (moveAt a i)) (length (a .moves)))
 
 -- "They rise strictly: by from, then M before D, then by to": b is above a
 unfoldable pub Rises : Move → Move → Type 0

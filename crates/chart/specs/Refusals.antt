@@ -1,4 +1,4 @@
--- Refusals 1 to 9 of document 01's table: the number and the line of each, when each applies to a text, and their order. A
+-- Refusals 1 to 9 of document 01's table: when each applies to a text, and their order. A
 -- condition of a line takes the line as read: what an earlier refusal would catch is left to it.
 use Prim.Native.Nat.{ℕ, _+_, _-_, _*_, _%_, _≤_, _<_}
 use mathlib.Core.Path.{_≡_}
@@ -6,11 +6,11 @@ use mathlib.Core.Logic.{_⊎_}
 use mathlib.Core.List.{List}
 use lib.ListN.{length}
 use Rattle.field.specs.declared.Field.the-variants.{Bad}
-use Rattle.chart.specs.Text.{letterAt, firstAt, secondAt, endAt, markAt, numberOf, positionsOf, movesOf, fromAt, toAt}
+use Rattle.chart.specs.Text.{letterAt, firstAt, secondAt, endAt, markAt, fieldNumber, positionsOf, movesOf, fromAt, toAt}
 use Rattle.chart.specs.Meaning.{moveOn, Rises}
-use Rattle.refusal.specs.Numbers.{refusalNumber, refusalLine}
-use Rattle.refusal.specs.declared.Refusal.{Refusal}
-use Rattle.refusal.specs.declared.Refusal.the-variants.{Length, Form, Limits, Count, Sequence, Endpoint, Disturbed, Order, NoMeant}
+use Rattle.refusal.specs.Numbers.{misdrawnLine}
+use Rattle.refusal.specs.declared.Misdrawn.{Misdrawn}
+use Rattle.refusal.specs.declared.Misdrawn.the-variants.{Length, Form, Limits, Count, Sequence, Endpoint, Disturbed, Order, NoMeant}
 
 -- lines 1 to n are positions, the m lines after them are moves
 abbrev pub PositionLine : List ℕ → ℕ → Type 0
@@ -29,11 +29,15 @@ Allowed text i letter =
     ((i ≡ 0) × (letter ≡ 72))
     ⊎ ((PositionLine text i × ((letter ≡ 79) ⊎ (letter ≡ 76))) ⊎ (MoveLine text i × ((letter ≡ 77) ⊎ (letter ≡ 68))))
 
+-- the second field of a line is bad; on a position line that is its mark
+unfoldable pub BadSecond : List ℕ → ℕ → Type 0
+BadSecond text i = (PositionLine text i × (markAt text i ≡ Bad)) ⊎ ((PositionLine text i → ⊥) × (secondAt text i ≡ Bad))
+
 -- 2: "letter not allowed at this line, bad field or no line feed"
 unfoldable pub BadForm : List ℕ → ℕ → Type 0
 BadForm text i =
     (i ≤ positionsOf text + movesOf text)
-    × ((Allowed text i (letterAt text i) → ⊥) ⊎ ((firstAt text i ≡ Bad) ⊎ ((secondAt text i ≡ Bad) ⊎ (endAt text i ≡ 10 → ⊥))))
+    × ((Allowed text i (letterAt text i) → ⊥) ⊎ ((firstAt text i ≡ Bad) ⊎ (BadSecond text i ⊎ (endAt text i ≡ 10 → ⊥))))
 
 -- 3: "n or m outside its limits"
 unfoldable pub OutsideLimits : List ℕ → Type 0
@@ -45,7 +49,7 @@ WrongCount text = length text ≡ (1 + positionsOf text + movesOf text) * 12 →
 
 -- 5: "position out of sequence, or mark above 1"
 unfoldable pub OutOfSequence : List ℕ → ℕ → Type 0
-OutOfSequence text i = PositionLine text i × ((fromAt text i ≡ i - 1 → ⊥) ⊎ (1 < numberOf (markAt text i)))
+OutOfSequence text i = PositionLine text i × ((fromAt text i ≡ i - 1 → ⊥) ⊎ (1 < fieldNumber (markAt text i)))
 
 -- 6: "a move names a position from n up"
 unfoldable pub BadEndpoint : List ℕ → ℕ → Type 0
@@ -64,7 +68,7 @@ unfoldable pub WithoutMeant : List ℕ → ℕ → Type 0
 WithoutMeant text i = PositionLine text i × ((j : ℕ) → MoveLine text j → letterAt text j ≡ 77 → fromAt text j ≡ i - 1 → ⊥)
 
 -- the table's column "When"
-abbrev pub Applies : List ℕ → Refusal → Type 0
+abbrev pub Applies : List ℕ → Misdrawn → Type 0
 Applies text Length = BadLength text
 Applies text (Form line) = BadForm text line
 Applies text Limits = OutsideLimits text
@@ -76,7 +80,7 @@ Applies text (Order line) = OutOfOrder text line
 Applies text (NoMeant line) = WithoutMeant text line
 
 -- "Order: 1; then line by line ..; then 9"
-abbrev pub stage : Refusal → ℕ
+abbrev pub stage : Misdrawn → ℕ
 stage Length = 0
 stage (Form line) = 1
 stage Limits = 1
@@ -87,14 +91,25 @@ stage (Disturbed line) = 1
 stage (Order line) = 1
 stage (NoMeant line) = 2
 
--- by stage, then by line, then "2 before the rest, 3 before 4, and 6, 7, 8": by number
-abbrev pub Before : Refusal → Refusal → Type 0
+-- "2 before the rest, 3 before 4, and 6, 7, 8": the place of a refusal among those of its line
+abbrev pub rank : Misdrawn → ℕ
+rank Length = 0
+rank (Form line) = 1
+rank Limits = 2
+rank Count = 3
+rank (Sequence line) = 4
+rank (Endpoint line) = 5
+rank (Disturbed line) = 6
+rank (Order line) = 7
+rank (NoMeant line) = 8
+
+-- by stage, then by line, then by rank
+abbrev pub Before : Misdrawn → Misdrawn → Type 0
 Before r s =
     (stage r < stage s)
-    ⊎ ((stage r ≡ stage s)
-    × ((refusalLine r < refusalLine s) ⊎ ((refusalLine r ≡ refusalLine s) × (refusalNumber r < refusalNumber s))))
+    ⊎ ((stage r ≡ stage s) × ((misdrawnLine r < misdrawnLine s) ⊎ ((misdrawnLine r ≡ misdrawnLine s) × (rank r < rank s))))
 
 -- r applies, and nothing before it in the order does
-pub record First (text : List ℕ) (r : Refusal) : Type 0 where
+pub record First (text : List ℕ) (r : Misdrawn) : Type 0 where
   pub applies : Applies text r
-  pub none-before : (s : Refusal) → Before s r → Applies text s → ⊥
+  pub none-before : (s : Misdrawn) → Before s r → Applies text s → ⊥

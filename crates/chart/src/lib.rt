@@ -4,41 +4,25 @@ ghost use mathlib.Core.Path.{_≡_};
 ghost use mathlib.Core.Bool.{cond, false};
 ghost use Prim.Native.Nat.{ℕ, _+_, _-_, _*_, _≤_, _<_};
 ghost use lib.ListN.{length, getD};
-ghost use Rattle.chart.specs.Text.{letterAt, numberOf};
+ghost use Rattle.chart.specs.Text.{letterAt, fieldNumber};
 ghost use Rattle.chart.specs.Columns.{rowAt, meantRow};
 ghost use Rattle.chart.specs.Meaning.{costOf};
-ghost use Rattle.chart.specs.Examined.{numbered, formed, headerOf, limitsOf, positionRowFinding, judgedPosition, moveFinding, judgedMove, ordered, above, lineFinding, firstOf, meantIn, unflaggedAt, afterHeader, examined};
+ghost use Rattle.chart.specs.Examined.{numbered, formed, headerOf, limitsOf, positionRowFinding, judgedPosition, moveFinding, judgedMove, ordered, above, lineFinding, firstFault, meantIn, unflaggedAt, afterHeader, examined};
 use field::Field;
 use field::read;
-use refusal::Refusal;
-
-// The counts of an accepted chart, with the limits of every chart.
-pub struct Chart {
-    pub positions: usize,
-    pub moves: usize,
-}
-
-impl Chart {
-    // The most positions, and the most moves.
-    pub const POSITIONS: usize = 512;
-
-    pub const MOVES: usize = 4096;
-    // The bytes of a line, and of the longest chart: a header, 512 positions and 4,096 moves.
-    pub const LINE: usize = 12;
-
-    pub const BYTES: usize = 55308;
-}
+use refusal::Misdrawn;
+use rows::Chart;
 
 // What examining a text answers.
 pub enum Examination {
     Accepted(Chart),
-    Refused(Refusal),
+    Refused(Misdrawn),
 }
 
 // What examining a part of a text finds.
 enum Finding {
     Clean,
-    Fault(Refusal),
+    Fault(Misdrawn),
 }
 
 // The columns of a line: its letter, its two fields and its last byte.
@@ -55,13 +39,13 @@ pub fn examine(text: &[u8]) -> Examination
 {
     let size = text.len();
     if size == 0 {
-        return Examination::Refused(Refusal::Length);
+        return Examination::Refused(Misdrawn::Length);
     }
     if Chart::BYTES < size {
-        return Examination::Refused(Refusal::Length);
+        return Examination::Refused(Misdrawn::Length);
     }
     if size % Chart::LINE != 0 {
-        return Examination::Refused(Refusal::Length);
+        return Examination::Refused(Misdrawn::Length);
     }
     match header(text) {
         Examination::Refused(r) => Examination::Refused(r),
@@ -85,22 +69,22 @@ fn limits(ok: bool, size: usize, n: usize, m: usize) -> Examination
     ensures { λ r. ⌜ r ≡ limitsOf ok size n m ⌝ }
 {
     if !ok {
-        return Examination::Refused(Refusal::Form(0));
+        return Examination::Refused(Misdrawn::Form(0));
     }
     if n < 1 {
-        return Examination::Refused(Refusal::Limits);
+        return Examination::Refused(Misdrawn::Limits);
     }
     if Chart::POSITIONS < n {
-        return Examination::Refused(Refusal::Limits);
+        return Examination::Refused(Misdrawn::Limits);
     }
     if m < 1 {
-        return Examination::Refused(Refusal::Limits);
+        return Examination::Refused(Misdrawn::Limits);
     }
     if Chart::MOVES < m {
-        return Examination::Refused(Refusal::Limits);
+        return Examination::Refused(Misdrawn::Limits);
     }
     if size != (1 + n + m) * Chart::LINE {
-        return Examination::Refused(Refusal::Count);
+        return Examination::Refused(Misdrawn::Count);
     }
     Examination::Accepted(Chart {
         positions: n,
@@ -130,7 +114,7 @@ fn after_header(text: &[u8], chart: Chart) -> Examination
 // Where there is no fault, a 1 for each position that a meant move is from; the other flags stay.
 fn first_fault(text: &[u8], n: usize, last: usize, flags: &mut [u8]) -> Finding
     requires { ⌜ (n ≤ last) × ((last + 1) * 12 ≤ length (now text)) ⌝ }
-    ensures { λ r. ⌜ (r ≡ firstOf (lineFinding (now (text .entry)) n) last 1) × (r ≡ Finding.Clean → (v : ℕ) → v < length (now (flags .entry)) → getD (now (flags .exit)) v 0 ≡ cond (meantIn (now (text .entry)) n (last - n) v) 1 (getD (now (flags .entry)) v 0)) ⌝ }
+    ensures { λ r. ⌜ (r ≡ firstFault (lineFinding (now (text .entry)) n) last 1) × (r ≡ Finding.Clean → (v : ℕ) → v < length (now (flags .entry)) → getD (now (flags .exit)) v 0 ≡ cond (meantIn (now (text .entry)) n (last - n) v) 1 (getD (now (flags .entry)) v 0)) ⌝ }
 {
     let mut line = 1;
     let mut before = row_at(text, 0);
@@ -192,13 +176,13 @@ fn judge_position(ok: bool, line: usize, position: usize, mark: usize) -> Findin
     ensures { λ r. ⌜ r ≡ judgedPosition ok line position mark ⌝ }
 {
     if !ok {
-        return Finding::Fault(Refusal::Form(line));
+        return Finding::Fault(Misdrawn::Form(line));
     }
     if position != line - 1 {
-        return Finding::Fault(Refusal::Sequence(line));
+        return Finding::Fault(Misdrawn::Sequence(line));
     }
     if 1 < mark {
-        return Finding::Fault(Refusal::Sequence(line));
+        return Finding::Fault(Misdrawn::Sequence(line));
     }
     Finding::Clean
 }
@@ -234,17 +218,17 @@ fn judge_move(
     ensures { λ r. ⌜ r ≡ judgedMove ok n line letter from to owner rises ⌝ }
 {
     if !ok {
-        return Finding::Fault(Refusal::Form(line));
+        return Finding::Fault(Misdrawn::Form(line));
     }
     if n <= from {
-        return Finding::Fault(Refusal::Endpoint(line));
+        return Finding::Fault(Misdrawn::Endpoint(line));
     }
     if n <= to {
-        return Finding::Fault(Refusal::Endpoint(line));
+        return Finding::Fault(Misdrawn::Endpoint(line));
     }
     if letter == b'D' {
         if owner == b'L' {
-            return Finding::Fault(Refusal::Disturbed(line));
+            return Finding::Fault(Misdrawn::Disturbed(line));
         }
         return judge_order(n, line, rises);
     }
@@ -262,13 +246,13 @@ fn judge_order(n: usize, line: usize, rises: bool) -> Finding
     if rises {
         Finding::Clean
     } else {
-        Finding::Fault(Refusal::Order(line))
+        Finding::Fault(Misdrawn::Order(line))
     }
 }
 
 // Whether a move is above the one on the line before.
 fn rise(before: Row, from: usize, cost1: u8, to: usize) -> bool
-    ensures { λ r. ⌜ r ≡ above (numberOf (before .first)) (costOf (before .letter)) (numberOf (before .second)) from cost1 to ⌝ }
+    ensures { λ r. ⌜ r ≡ above (fieldNumber (before .first)) (costOf (before .letter)) (fieldNumber (before .second)) from cost1 to ⌝ }
 {
     let first = before.first;
     let second = before.second;
@@ -351,12 +335,12 @@ fn flag_row(moves: bool, row: Row, flags: &mut [u8])
 // The lowest of n positions whose flag is 0.
 fn unflagged(flags: &[u8], n: usize) -> Finding
     requires { ⌜ n ≤ length (now flags) ⌝ }
-    ensures { λ r. ⌜ r ≡ firstOf (unflaggedAt (now (flags .entry))) n 0 ⌝ }
+    ensures { λ r. ⌜ r ≡ firstFault (unflaggedAt (now (flags .entry))) n 0 ⌝ }
 {
     let mut v = 0;
     while v < n {
         if flags[v] == 0 {
-            return Finding::Fault(Refusal::NoMeant(v + 1));
+            return Finding::Fault(Misdrawn::NoMeant(v + 1));
         }
         v += 1;
     }
@@ -374,7 +358,7 @@ fn letter_at(text: &[u8], line: usize) -> u8
 
 // A field's number; 0 stands for a bad field.
 fn number(f: Field) -> usize
-    ensures { λ r. ⌜ r ≡ numberOf f ⌝ }
+    ensures { λ r. ⌜ r ≡ fieldNumber f ⌝ }
 {
     match f {
         Field::Number(x) => x as usize,

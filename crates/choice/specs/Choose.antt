@@ -5,13 +5,12 @@ use mathlib.Core.Bool.{Bool, cond, _&&_, _||_}
 use mathlib.Core.List.{List}
 use lib.ListN.{length, getD}
 use lib.Dec.{eqb, ltb}
-use Rattle.game.specs.Value.{Value, numberOf}
-use Rattle.game.specs.ValueLaws.{Fits}
+use Rattle.rows.specs.Rows.{RowIs, Stays, RowsOf}
+use Rattle.rows.specs.Numbers.{numberOf}
+use Rattle.rows.specs.NumberLaws.{Fits}
+use Rattle.game.specs.Value.{Value}
 use Rattle.game.specs.Arena.{Arena}
 use Rattle.game.specs.Best.{bestAt}
-use Rattle.game.specs.Rows.{RowIs}
-use Rattle.round.specs.RowLaws.{Stays}
-use Rattle.round.specs.Held.{Decoded}
 
 -- w is better than the best so far: there is none, or w has a greater value, or an equal one and a lower number. As
 -- numbers too, 65,535 is above each value.
@@ -43,5 +42,5 @@ ValuesAre row n value = (v : ℕ) → v < n → (getD row v 0 ≡ numberOf (valu
 
 -- the row has the choice of each position, and what lies past them stays
 pub record Chosen (n m : ℕ) (owners costs froms tos values choices choices′ : List ℕ) : Type 0 where
-  pub rows : (a : Arena) (value : ℕ → Value) → Decoded a n m owners costs froms tos → ValuesAre values n value → RowIs choices′ n (λ v. numberOf (bestAt a value v))
+  pub rows : (a : Arena) (marks : List ℕ) (value : ℕ → Value) → RowsOf a n m owners marks costs froms tos → ValuesAre values n value → RowIs choices′ n (λ v. numberOf (bestAt a value v))
   pub stay : Stays n choices choices′

@@ -6,20 +6,19 @@ use native.Mathlib.Omega.{arith}
 use mathlib.Core.Path.{_≡_, refl, sym, ap, subst, _∙_}
 use mathlib.Core.Bool.{Bool, true, false, cond, _&&_, _||_, and-true, and-false}
 use mathlib.Core.List.{List, [], _∷_, _++_}
-use lib.ListN.{length, getD, set, take}
+use lib.ListN.{length, getD, take}
 use lib.Seq.{getD-set-same, getD-set-other, take-suc, take-all}
 use lib.Dec.{eqb, ltb}
-use borrow.Author.Tests.{eq-eqb, ne-eqb, lt-ltb, le-ltb}
-use Rattle.game.specs.Value.{Value, fin, ever, ltV, eqV, numberOf}
-use Rattle.game.specs.ValueLaws.{Fits}
-use Rattle.game.specs.Arena.{Arena, Move, Owner, controller, environment, size, ownerAt, moveAt, noMove}
+use borrow.Author.Tests.{eq-eqb, ne-eqb}
+use Rattle.rows.specs.RowsLaws.{to-inside}
+use Rattle.rows.specs.Rows.{RowIs, Stays, Within, RowsOf}
+use Rattle.rows.specs.Numbers.{numberOf}
+use Rattle.rows.specs.NumberLaws.{less-numbers, same-numbers}
+use Rattle.rows.specs.Filling.{setIf, setIf-stays}
+use Rattle.game.specs.Value.{Value, fin, ever, ltV, eqV}
+use Rattle.game.specs.Arena.{Arena, Move, Owner, controller, environment, ownerAt, moveAt, noMove}
 use Rattle.game.specs.Table.{meantFrom}
 use Rattle.game.specs.Best.{better, bestIn, bestAs, bestAt}
-use Rattle.game.specs.Rows.{RowIs, ownerNumber}
-use Rattle.round.specs.RowLaws.{Stays, setIf, setIf-stays}
-use Rattle.round.specs.Round.{Within}
-use Rattle.round.specs.Held.{Decoded}
-use Rattle.round.specs.HeldLaws.{to-inside}
 use Rattle.choice.specs.Choose.{Chosen, isBetter, Fitting, ownMove, bestBelow, ValuesAre}
 
 -- the row after the first i moves
@@ -89,21 +88,6 @@ module _ {n m : ℕ} (owners : List ℕ) {costs froms tos : List ℕ} (values : 
         new-in = omega (arith, w .to-inside i k);
       }
 
--- comparing numbers is comparing values
-pub less-numbers : (x y : Value) → Fits x → Fits y → ltb (numberOf x) (numberOf y) ≡ ltV x y
-unfolding numberOf ltV
-less-numbers (fin j) (fin k) f g = refl
-less-numbers (fin j) ever f g = lt-ltb j 65535 f
-less-numbers ever (fin k) f g = le-ltb 65535 k (omega arith)
-less-numbers ever ever f g = refl
-
-same-numbers : (x y : Value) → Fits x → Fits y → eqb (numberOf x) (numberOf y) ≡ eqV x y
-unfolding numberOf eqV
-same-numbers (fin j) (fin k) f g = refl
-same-numbers (fin j) ever f g = ne-eqb j 65535 (λ e. omega arith)
-same-numbers ever (fin k) f g = ne-eqb 65535 k (λ e. omega arith)
-same-numbers ever ever f g = refl
-
 -- one move more at the end
 best-snoc : (value : ℕ → Value) (v : ℕ) (x : Value) (ms : List Move) (m : Move)
     → bestIn value v x (ms ++ (m ∷ [])) ≡ cond (meantFrom v m) (better value (bestIn value v x ms) (m .to)) (bestIn value v x ms)
@@ -111,8 +95,8 @@ unfolding bestIn
 best-snoc value v x [] m = refl
 best-snoc value v x (k ∷ ms) m = best-snoc value v (cond (meantFrom v k) (better value x (k .to)) x) ms m
 
-module _ (a : Arena) (n m : ℕ) (owners costs froms tos values : List ℕ) (value : ℕ → Value) (small : n ≤ 65535)
-    (d : Decoded a n m owners costs froms tos) (valued : ValuesAre values n value) (w : Within n m costs froms tos) (v : ℕ) (inside : v < n) where
+module _ (a : Arena) (n m : ℕ) (owners marks costs froms tos values : List ℕ) (value : ℕ → Value)
+    (d : RowsOf a n m owners marks costs froms tos) (valued : ValuesAre values n value) (w : Within n m costs froms tos) (v : ℕ) (inside : v < n) where
   -- the best so far, if there is one, is a position
   Inside : Value → Type 0
   Inside (fin u) = u < n
@@ -123,7 +107,7 @@ module _ (a : Arena) (n m : ℕ) (owners costs froms tos values : List ℕ) (val
   unfolding isBetter better numberOf Inside
   better-number ever t h l = refl
   better-number (fin u) t h l =
-      rw (ne-eqb u 65535 (λ e. omega arith), valued u h .0, valued t l .0, less-numbers (value u) (value t) (valued u h .1) (valued t l .1), same-numbers (value u) (value t) (valued u h .1) (valued t l .1))
+      rw (ne-eqb u 65535 (λ e. omega (arith, d .few-positions)), valued u h .0, valued t l .0, less-numbers (value u) (value t) (valued u h .1) (valued t l .1), same-numbers (value u) (value t) (valued u h .1) (valued t l .1))
       (go (ltV (value u) (value t) || (eqV (value u) (value t) && ltb t u)))
     where
       go : (b : Bool) → cond b t u ≡ numberOf (cond b (fin t) (fin u))
@@ -151,7 +135,7 @@ module _ (a : Arena) (n m : ℕ) (owners costs froms tos values : List ℕ) (val
       t = moveAt a i .to
 
       meant-or-not : (c : Bool) → (cond (c && isBetter values (numberOf x) t) t (numberOf x) ≡ numberOf (cond c (better value x t) x)) × Inside (cond c (better value x t) x)
-      meant-or-not true = (better-number x t h (to-inside a n m owners costs froms tos d i l), better-inside x t h (to-inside a n m owners costs froms tos d i l))
+      meant-or-not true = (better-number x t h (to-inside a n m owners marks costs froms tos d i l), better-inside x t h (to-inside a n m owners marks costs froms tos d i l))
       meant-or-not false = (refl, h)
 
       go : Dec (moveAt a i .from ≡ v) → (c : Bool)
@@ -196,10 +180,10 @@ module _ (a : Arena) (n m : ℕ) (owners costs froms tos values : List ℕ) (val
       go controller own = so-far own m (omega arith) .0 ∙ ap (λ (ms : List Move). numberOf (bestIn value v ever ms)) all
       go environment own = none-so-far own m (omega arith)
 
-pub choosing-done : {n m : ℕ} {owners costs froms tos values choices choices′ : List ℕ} → n ≤ 512 → Within n m costs froms tos
+pub choosing-done : {n m : ℕ} {owners costs froms tos values choices choices′ : List ℕ} → Within n m costs froms tos
     → {cleared : List ℕ} → Stays n choices cleared → Choosing n owners costs froms tos values m cleared choices′ → Chosen n m owners costs froms tos values choices choices′
-choosing-done {n} {m} {owners} {costs} {froms} {tos} {values} small w first h =
+choosing-done {n} {m} {owners} {costs} {froms} {tos} {values} w first h =
     record {
-      rows = λ a value d valued v l. h .at v l ∙ chosen-is-best a n m owners costs froms tos values value (omega arith) d valued w v l;
+      rows = λ a marks value d valued v l. h .at v l ∙ chosen-is-best a n m owners marks costs froms tos values value d valued w v l;
       stay = λ j l. h .stay j l ∙ first j l;
     }

@@ -1,13 +1,14 @@
 // The choices of a row of values: at O the meant target of greatest value, the lowest number among equals.
 ghost use mathlib.Core.Path.{_≡_};
 ghost use mathlib.Core.Bool.{_&&_};
-ghost use Prim.Native.Nat.{_<_, _≤_};
+ghost use mathlib.Core.List.{List};
+ghost use Prim.Native.Nat.{ℕ, _<_, _≤_};
 ghost use lib.ListN.{length, getD};
-ghost use Rattle.round.specs.RowLaws.{setIf};
-ghost use Rattle.round.specs.Round.{AtMove, Within};
+ghost use Rattle.rows.specs.Rows.{AtMove, ChartRows};
+ghost use Rattle.rows.specs.Filling.{setIf};
 ghost use Rattle.choice.specs.Choose.{Chosen, Fitting, isBetter, ownMove};
-use round::NONE;
-use round::clear;
+use rows::NONE;
+use rows::clear;
 
 // The target w is better than the best so far.
 fn is_better(values: &[u16], best: u16, w: u16) -> bool
@@ -54,7 +55,7 @@ fn choose_by(
     }
 }
 
-// The choice of each position by a row of values: one walk over the moves. The bounds keep every index within its row.
+// The choice of each position by a row of values: one walk over the moves. The rows hold a chart.
 pub fn choose(
     n: usize,
     m: usize,
@@ -65,7 +66,7 @@ pub fn choose(
     values: &[u16],
     choices: &mut [u16],
 )
-    requires { ⌜ Within n m (now costs) (now froms) (now tos) × (n ≤ 512) × (n ≤ length (now owners)) × (n ≤ length (now values)) × (n ≤ length (now choices)) ⌝ }
+    requires { ⌜ ((marks : List ℕ) × ChartRows n m (now owners) marks (now costs) (now froms) (now tos)) × (n ≤ length (now values)) × (n ≤ length (now choices)) ⌝ }
     ensures { λ _. ⌜ Chosen n m (now (owners .entry)) (now (costs .entry)) (now (froms .entry)) (now (tos .entry)) (now (values .entry)) (now (choices .entry)) (now (choices .exit)) ⌝ }
 {
     clear(n, choices);

@@ -1,7 +1,7 @@
 -- Conditions 1 to 5 of Checking at one position, as the code's tests on numbers: 65,535 stands for "ever" and the dash.
-use Prim.Native.Nat.{ℕ, _-_}
+use Prim.Native.Nat.{ℕ, _+_}
 use mathlib.Core.Bool.{Bool, Bool·beq, false, cond, not, _&&_, _||_}
-use lib.Dec.{eqb, ltb}
+use lib.Dec.{eqb, leb, ltb}
 use Rattle.conditions.specs.declared.Line.{Line}
 use Rattle.conditions.specs.declared.Target.{Target}
 use Rattle.conditions.specs.declared.Seen.{Seen}
@@ -34,10 +34,6 @@ afterMoves l s =
 unfoldable pub earlierTarget : Line → Target → Bool
 earlierTarget l t = ltb (t .value) (l .value) || (eqb (t .value) (l .value) && ltb (t .step) (l .step))
 
--- "this value less one ("ever" less one is "ever")"
-unfoldable pub lessOneNumber : ℕ → ℕ
-lessOneNumber x = cond (eqb x 65535) 65535 (cond (eqb x 0) 0 (x - 1))
-
 -- what a meant move shows: at O the choice must hold, at L every target; ruin goes at L by one that is earlier
 abbrev pub shownMeant : Line → Target → Seen
 shownMeant l t =
@@ -48,13 +44,13 @@ shownMeant l t =
       late = not (earlierTarget l t);
     }
 
--- what a disturbance shows: it must not lead below this value less one, and ruin goes by one into a smaller value
+-- what a disturbance shows: with its cost more its target must not lie below this value, and ruin goes by one that is at most this value
 abbrev pub shownDisturbance : Line → Target → Seen
 shownDisturbance l t =
     record {
       chosen = false;
-      low = ltb (t .value) (lessOneNumber (l .value));
-      ruin = ltb (t .value) (l .value);
+      low = ltb (t .value + t .cost) (l .value);
+      ruin = leb (t .value + t .cost) (l .value);
       late = false;
     }
 

@@ -1,7 +1,7 @@
 // Conditions 1 to 5 of Checking at one position: those that its own line settles, and those that its moves settle.
 ghost use mathlib.Core.Path.{_≡_};
-ghost use Rattle.conditions.specs.Position.{afterMoves, beforeMoves, earlierTarget, joined, lessOneNumber, nothing, shown};
-use round::NONE;
+ghost use Rattle.conditions.specs.Position.{afterMoves, beforeMoves, earlierTarget, joined, nothing, shown};
+use rows::NONE;
 
 // A position: its owner and mark in the chart, and its line of the plate.
 pub struct Line {
@@ -87,28 +87,18 @@ fn earlier(line: Line, target: Target) -> bool
     false
 }
 
-// A value less one; "ever" less one is "ever".
-fn less_one(value: u16) -> u16
-    ensures { λ r. ⌜ r ≡ lessOneNumber value ⌝ }
-{
-    if value == NONE {
-        return NONE;
-    }
-    if value == 0 {
-        return 0;
-    }
-    value - 1
-}
-
-// What one move shows.
+// What one move shows. A disturbance's target counts with its cost more, in a width that no sum leaves: beside a finite value 65,535
+// stays above, with a cost or without.
 fn show(line: Line, target: Target) -> Seen
     ensures { λ r. ⌜ r ≡ shown line target ⌝ }
 {
     if target.cost != 0 {
+        let value = line.value as u32;
+        let reached = target.value as u32 + target.cost as u32;
         return Seen {
             chosen: false,
-            low: target.value < less_one(line.value),
-            ruin: target.value < line.value,
+            low: reached < value,
+            ruin: reached <= value,
             late: false,
         };
     }

@@ -1,48 +1,30 @@
 -- The rows of an accepted text, decoded line by line, are its arena's.
 use Prim.Native.Nat.{ℕ, _+_, _*_, _≤_, _<_}
 use native.Mathlib.Omega.{arith}
-use mathlib.Core.Path.{_≡_, sym, ap, subst}
+use mathlib.Core.Path.{_≡_, sym, ap, subst, _∙_}
 use mathlib.Core.List.{List}
 use lib.ListN.{length}
-use Rattle.game.specs.Arena.{Arena, Position, Move, size, positionAt, moveAt, nowhere, noMove}
+use Rattle.rows.specs.Rows.{ownerNumber}
+use Rattle.game.specs.Arena.{Position, Move}
 use Rattle.field.specs.Text.{decimalAt}
 use Rattle.field.specs.Laws.{field-spells}
-use Rattle.chart.specs.Text.{firstAt, secondAt, markAt, numberOf, positionsOf, movesOf, fromAt, toAt}
-use Rattle.chart.specs.Meaning.{positionOn, moveOn, onLines, arenaOf}
+use Rattle.chart.specs.Text.{letterAt, firstAt, secondAt, markAt, fieldNumber, positionsOf, movesOf, fromAt, toAt}
+use Rattle.chart.specs.Meaning.{costOf, positionOn, moveOn, arenaOf}
 use Rattle.chart.specs.Examined.{examined}
-use Rattle.chart.specs.Arenas.{arena-size, arena-moves, arena-position, arena-move}
+use Rattle.chart.specs.Arenas.{arena-position, arena-move}
+use Rattle.chart.specs.Accepted.{accepted-chartable, accepted-size, accepted-moves}
 use Rattle.chart.specs.Good.{GoodChart, accepted-good}
-use Rattle.game.specs.Rows.{Filled, ownerNumber, Rows}
-use Rattle.game.specs.Filling.{filled-same}
-use Rattle.chart.specs.declared.Chart.{Chart}
+use Rattle.rows.specs.declared.Chart.{Chart}
+use Rattle.chart.specs.declared.Examination.{Examination}
 use Rattle.chart.specs.declared.Examination.the-variants.{Accepted}
 use Rattle.decode.specs.Loaded.{PositionRows, MoveRows, Loaded}
-
--- the decoded rows are the arena's
-pub rows-load : (text owners₀ owners marks₀ marks costs₀ costs froms₀ froms tos₀ tos : List ℕ) →
-    PositionRows text (positionsOf text) owners₀ owners marks₀ marks → MoveRows text (positionsOf text + 1) (movesOf text) costs₀ costs froms₀ froms tos₀ tos →
-    Loaded (arenaOf text) owners₀ owners marks₀ marks costs₀ costs froms₀ froms tos₀ tos
-unfolding positionOn moveOn
-rows-load text owners₀ owners marks₀ marks costs₀ costs froms₀ froms tos₀ tos p m = record {
-  owner = filled-same owners₀ owners _ _ _ _ (sym (arena-size text)) (λ v h. ap (λ (q : Position). ownerNumber (q .owner)) (sym (arena-position text v h))) (p .owner);
-  mark = filled-same marks₀ marks _ _ _ _ (sym (arena-size text)) (λ v h. ap (λ (q : Position). q .mark) (sym (arena-position text v h))) (p .mark);
-  cost = filled-same costs₀ costs _ _ _ _ (sym (arena-moves text)) (λ i h. ap (λ (q : Move). q .cost) (sym (arena-move text i h))) (m .cost);
-  from = filled-same froms₀ froms _ _ _ _ (sym (arena-moves text)) (λ i h. ap (λ (q : Move). q .from) (sym (arena-move text i h))) (m .from);
-  to = filled-same tos₀ tos _ _ _ _ (sym (arena-moves text)) (λ i h. ap (λ (q : Move). q .to) (sym (arena-move text i h))) (m .to);
-}
-
--- loaded rows hold the arena
-pub loaded-rows : (a : Arena) (owners₀ owners marks₀ marks costs₀ costs froms₀ froms tos₀ tos : List ℕ) →
-    Loaded a owners₀ owners marks₀ marks costs₀ costs froms₀ froms tos₀ tos → Rows a owners marks costs froms tos
-loaded-rows a owners₀ owners marks₀ marks costs₀ costs froms₀ froms tos₀ tos w =
-    record { owner = w .owner .row; mark = w .mark .row; cost = w .cost .row; from = w .from .row; to = w .to .row }
 
 -- what decoding needs of an accepted text: the lines are there, the numbers fit the rows, and the bytes spell them
 pub record PositionsFit (text : List ℕ) (n : ℕ) : Type 0 where
   pub few : n ≤ 512
   pub room : (n + 1) * 12 ≤ length text
-  pub small : (v : ℕ) → v < n → numberOf (markAt text (v + 1)) ≤ 1
-  pub mark-spelt : (v : ℕ) → v < n → decimalAt text ((v + 1) * 12 + 6) ≡ numberOf (markAt text (v + 1))
+  pub small : (v : ℕ) → v < n → fieldNumber (markAt text (v + 1)) ≤ 1
+  pub mark-spelt : (v : ℕ) → v < n → decimalAt text ((v + 1) * 12 + 6) ≡ fieldNumber (markAt text (v + 1))
 
 pub record MovesFit (text : List ℕ) (first m : ℕ) : Type 0 where
   pub few : (first ≤ 513) × (m ≤ 4096)
@@ -86,11 +68,50 @@ moves-fit text chart e =
     let w = accepted-good text chart e in
     subst (λ (k : Chart). MovesFit text (k .positions + 1) (k .moves)) (sym (w .1)) (good-moves text (w .0))
 
+-- the decoded rows of an accepted text are its arena's
 pub accepted-rows-load : (text : List ℕ) (chart : Chart) (owners₀ owners marks₀ marks costs₀ costs froms₀ froms tos₀ tos : List ℕ) → examined text ≡ Accepted chart →
+    (512 ≤ length owners) × (512 ≤ length marks) → (4096 ≤ length costs) × (4096 ≤ length froms) × (4096 ≤ length tos) →
     PositionRows text (chart .positions) owners₀ owners marks₀ marks → MoveRows text (chart .positions + 1) (chart .moves) costs₀ costs froms₀ froms tos₀ tos →
-    Loaded (arenaOf text) owners₀ owners marks₀ marks costs₀ costs froms₀ froms tos₀ tos
-accepted-rows-load text chart owners₀ owners marks₀ marks costs₀ costs froms₀ froms tos₀ tos e p m =
-    let w = accepted-good text chart e .1 in
-    rows-load text owners₀ owners marks₀ marks costs₀ costs froms₀ froms tos₀ tos
-    (subst (λ (k : Chart). PositionRows text (k .positions) owners₀ owners marks₀ marks) w p)
-    (subst (λ (k : Chart). MoveRows text (k .positions + 1) (k .moves) costs₀ costs froms₀ froms tos₀ tos) w m)
+    Loaded (arenaOf text) (chart .positions) (chart .moves) owners₀ owners marks₀ marks costs₀ costs froms₀ froms tos₀ tos
+unfolding positionOn moveOn
+accepted-rows-load text chart owners₀ owners marks₀ marks costs₀ costs froms₀ froms tos₀ tos e long longer p m =
+    let size-is = accepted-size text chart e in
+    let moves-are = accepted-moves text chart e in
+    let few = accepted-chartable text chart e .few-positions in
+    let some = accepted-chartable text chart e .few-moves in
+    let same : chart ≡ record { positions = positionsOf text; moves = movesOf text } = accepted-good text chart e .1 in
+    let first : chart .positions ≡ positionsOf text = ap (λ (k : Chart). k .positions) same in
+    let second : chart .moves ≡ movesOf text = ap (λ (k : Chart). k .moves) same in
+    let line : (i : ℕ) → chart .positions + 1 + i ≡ positionsOf text + 1 + i = λ i. ap (λ (k : ℕ). k + 1 + i) first in
+    record {
+      rows = record {
+        well = accepted-chartable text chart e .well-formed;
+        positions = size-is;
+        moves = moves-are;
+        few-positions = omega arith;
+        few-moves = omega arith;
+        owner = λ v h. p .owner .row v h ∙ ap (λ (q : Position). ownerNumber (q .owner)) (sym (arena-position text v (rw first at h)));
+        mark = λ v h. p .mark .row v h ∙ ap (λ (q : Position). q .mark) (sym (arena-position text v (rw first at h)));
+        cost = λ i h. m .cost .row i h ∙ ap (λ (k : ℕ). costOf (letterAt text k)) (line i) ∙ ap (λ (q : Move). q .cost) (sym (arena-move text i (rw second at h)));
+        from = λ i h. m .from .row i h ∙ ap (fromAt text) (line i) ∙ ap (λ (q : Move). q .from) (sym (arena-move text i (rw second at h)));
+        to = λ i h. m .to .row i h ∙ ap (toAt text) (line i) ∙ ap (λ (q : Move). q .to) (sym (arena-move text i (rw second at h)));
+        owners-row = omega (arith, long .0);
+        marks-row = omega (arith, long .1);
+        costs-row = omega (arith, longer .0);
+        froms-row = omega (arith, longer .1);
+        tos-row = omega (arith, longer .2);
+      };
+      owners-past = p .owner .rest;
+      marks-past = p .mark .rest;
+      costs-past = m .cost .rest;
+      froms-past = m .from .rest;
+      tos-past = m .to .rest;
+    }
+
+-- the same for whatever chart the answer is
+pub answered-rows-load : (text : List ℕ) (chart other : Chart) (owners₀ owners marks₀ marks costs₀ costs froms₀ froms tos₀ tos : List ℕ) → _≡_ {A = Examination} (Accepted chart) (Accepted other) →
+    Loaded (arenaOf text) (chart .positions) (chart .moves) owners₀ owners marks₀ marks costs₀ costs froms₀ froms tos₀ tos →
+    Loaded (arenaOf text) (other .positions) (other .moves) owners₀ owners marks₀ marks costs₀ costs froms₀ froms tos₀ tos
+answered-rows-load text chart other owners₀ owners marks₀ marks costs₀ costs froms₀ froms tos₀ tos e w =
+    let same : chart ≡ other = cc in
+    subst (λ (k : Chart). Loaded (arenaOf text) (k .positions) (k .moves) owners₀ owners marks₀ marks costs₀ costs froms₀ froms tos₀ tos) same w

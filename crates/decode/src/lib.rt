@@ -2,15 +2,15 @@
 ghost use mathlib.Core.Path.{_≡_};
 ghost use Prim.Native.Nat.{_+_, _≤_};
 ghost use lib.ListN.{length};
+ghost use Rattle.rows.specs.Rows.{ownerNumber};
 ghost use Rattle.chart.specs.Examined.{examined};
 ghost use Rattle.chart.specs.Meaning.{ownerOf};
-ghost use Rattle.game.specs.Rows.{ownerNumber};
 ghost use Rattle.decode.specs.Loaded.{PositionRows, MoveRows, LoadIs};
-use chart::Chart;
 use chart::Examination;
 use chart::cost;
 use chart::examine;
 use field::decimal;
+use rows::Chart;
 
 // Examines a chart and, where it is accepted, decodes it into rows: owner (0 the controller, 1 the environment) and mark of
 // each position, cost (0 meant, 1 a disturbance), from and to of each move. What lies past them stays, and on a refusal all

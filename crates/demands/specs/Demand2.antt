@@ -3,7 +3,7 @@
 -- reads "ever" exactly when some controller is safe in all plays." What a position reads is `valueIn` of the plate's bytes; the two
 -- sides of "exactly when" are `IsValue`, at a number and at "ever".
 use Prim.Native.Nat.{ℕ, _<_}
-use mathlib.Core.Path.{_≡_, refl, sym, subst}
+use mathlib.Core.Path.{_≡_, subst}
 use mathlib.Core.Logic.{_↔_}
 use mathlib.Core.List.{List}
 use Rattle.game.specs.Value.{Value}
@@ -12,7 +12,7 @@ use Rattle.game.specs.Worth.{IsValue}
 use Rattle.game.specs.Unique.{value-is-unique}
 use Rattle.chart.specs.Meaning.{arenaOf}
 use Rattle.plate.specs.Read.{valueIn}
-use Rattle.audit.specs.Plates.{accepted-plate-is-right}
+use Rattle.checking.specs.Plates.{accepted-plate-is-right}
 use Rattle.demands.specs.Sanctioned.{Sanctioned}
 use Rattle.demands.specs.SanctionedLaws.{sanctioned-is-accepted}
 

@@ -8,13 +8,13 @@ use mathlib.Core.Path.{_≡_, refl}
 use mathlib.Core.Logic.{_↔_}
 use mathlib.Core.List.{List}
 use lib.ListN.{length, getD}
+use Rattle.rows.specs.Numbers.{rowValue}
 use Rattle.game.specs.Value.{Value, _≼_}
 use Rattle.game.specs.Arena.{Arena, controller, size, ownerAt}
 use Rattle.game.specs.Play.{Trail, Controller, last, positional}
 use Rattle.game.specs.Worth.{WorthIs, AtMost}
 use Rattle.chart.specs.Meaning.{arenaOf}
-use Rattle.summary.specs.Summarize.{rowValue}
-use Rattle.summary.specs.declared.Summary.{Summary}
+use Rattle.rows.specs.declared.FirstLine.{FirstLine}
 use Rattle.weighing.specs.Weighing.{weighed, WeighedIs}
 use Rattle.weighing.specs.declared.Weighed.the-variants.{Done}
 use Rattle.reading.specs.Reading.{ReadingIs}
@@ -24,7 +24,7 @@ use Rattle.demands.specs.Sanctioned.{Sanctioned}
 -- the plate, as Reading gives it: the row of its values, and that of its choices
 pub record ReadPlate (text plate values choices : List ℕ) : Type 0 where
   pub sanctioned : Sanctioned text plate
-  pub header : Summary
+  pub header : FirstLine
   pub values₀ : List ℕ
   pub choices₀ : List ℕ
   pub steps₀ : List ℕ

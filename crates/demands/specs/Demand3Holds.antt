@@ -3,45 +3,38 @@ use Prim.Native.Nat.{ℕ, zero, suc, _≤_, _<_}
 use native.Mathlib.Omega.{arith}
 use native.Mathlib.Decide.{ℕ-discrete}
 use mathlib.Core.Path.{_≡_, refl, sym, ap, subst, _∙_}
-use mathlib.Core.Logic.{_↔_, _⊎_, inl, inr}
-use mathlib.Core.Bool.{Bool, true, false, _&&_}
+use mathlib.Core.Logic.{_⊎_, inl, inr}
+use mathlib.Core.Bool.{Bool, true, false}
 use mathlib.Core.List.{List}
 use lib.ListN.{length, getD}
-use lib.Dec.{T, leb}
+use lib.Dec.{T}
 use borrow.Author.Tests.{le-leb}
-use Rattle.game.specs.Value.{Value, fin, ever, _≼_, eqV, numberOf, valueOf}
-use Rattle.game.specs.ValueLaws.{Fits, eqV-sound, value-of-number, number-of-value, ≼antisym, ≡→≼}
+use Rattle.rows.specs.Numbers.{numberOf, valueOf, rowValue}
+use Rattle.rows.specs.NumberLaws.{Fits, value-of-number, number-of-value}
+use Rattle.game.specs.Value.{Value, fin, _≼_, eqV}
+use Rattle.game.specs.ValueLaws.{eqV-sound, ≼antisym}
 use Rattle.game.specs.Arena.{Arena, Owner, controller, environment, WellFormed, size, ownerAt, meantMove}
-use Rattle.game.specs.Play.{Trail, still, Controller, Legal, LegalAs, last, targetOf, positional}
+use Rattle.game.specs.Play.{still, Controller, Legal, LegalAs, last, targetOf, positional}
 use Rattle.game.specs.Worth.{WorthIs, AtMost, IsValue}
 use Rattle.game.specs.Bounds.{value-is-bounds, worth-is-both-bounds, bounds-in-order}
 use Rattle.game.specs.Unique.{value-is-unique, worth-is-unique, worth-at-most-value}
-use Rattle.game.specs.Certificate.{Certificate}
 use Rattle.game.specs.Certified.{certificate-gives-worths}
-use Rattle.game.specs.Carry.{SameRow, NeverFalls, certificate-carries}
+use Rattle.game.specs.Carry.{SameRow, certificate-carries}
 use Rattle.game.specs.Optimal.{optimal-never-falls}
 use Rattle.game.specs.Table.{roundValue}
 use Rattle.game.specs.RoundValues.{rounds-give-the-values}
 use Rattle.chart.specs.Meaning.{arenaOf}
-use Rattle.chart.specs.Examined.{examined}
 use Rattle.chart.specs.Accepted.{accepted-chartable, accepted-size}
-use Rattle.chart.specs.declared.Chart.{Chart}
-use Rattle.chart.specs.declared.Examination.the-variants.{Accepted as Taken}
-use Rattle.summary.specs.Summarize.{rowValue}
-use Rattle.value.specs.ValuingLaws.{round-value-fits}
-use Rattle.weighing.specs.Weighing.{weighed, weighedBy, WeighedIs}
+use Rattle.valuing.specs.ValuingLaws.{round-value-fits}
+use Rattle.weighing.specs.Weighing.{weighed, weighedBy}
 use Rattle.weighing.specs.WeighingLaws.{legal-row-complete}
 use Rattle.weighing.specs.declared.Weighed.the-variants.{Done}
 use Rattle.plate.specs.Read.{valueIn, choiceIn, stepIn}
-use Rattle.plate.specs.Range.{Below}
-use Rattle.plate.specs.RangeLaws.{below-fits}
-use Rattle.plate.specs.RoundTrip.{read-in-range}
-use Rattle.reading.specs.ReadingTrip.{reading-took}
 use Rattle.verdict.specs.Verdict.{RightPlate}
-use Rattle.audit.specs.Answers.{AcceptedIs}
-use Rattle.audit.specs.AnswersExact.{answer-exactly}
-use Rattle.audit.specs.Plates.{accepted-plate-is-right}
-use Rattle.audit.specs.declared.Checked.the-variants.{Accepted}
+use Rattle.checking.specs.Answers.{AcceptedIs}
+use Rattle.checking.specs.AnswersExact.{answer-exactly}
+use Rattle.checking.specs.Plates.{accepted-plate-is-right}
+use Rattle.checking.specs.declared.Checked.the-variants.{Accepted}
 use Rattle.demands.specs.SanctionedLaws.{sanctioned-is-accepted}
 use Rattle.demands.specs.Demand3.{ReadPlate, Weighing, controllerOf, RowsAgree, NoneBetter, WorthAtMost, Other, Demand3}
 

@@ -3,17 +3,17 @@ use Prim.Native.Nat.{ℕ, _<_}
 use mathlib.Core.Path.{_≡_}
 use mathlib.Core.List.{List, [], _∷_, _++_}
 use lib.ListN.{length, getD}
-use Rattle.game.specs.Value.{Value, fin, ever, numberOf}
+use Rattle.game.specs.Value.{Value, fin, ever}
 use Rattle.game.specs.Arena.{Arena, size}
 use Rattle.game.specs.Worth.{IsValue}
 use Rattle.game.specs.Rounds.{Round, NeverPlaced}
 use Rattle.game.specs.Choice.{IsChoice}
-use Rattle.game.specs.Summary.{pairCount, highest, everCount}
-use Rattle.chart.specs.Meaning.{arenaOf, lineText}
+use Rattle.game.specs.FirstLine.{pairCount, highest, everCount}
+use Rattle.chart.specs.Meaning.{arenaOf, chartLine}
 use Rattle.chart.specs.Examined.{examined}
-use Rattle.refusal.specs.Numbers.{refusalNumber, refusalLine}
-use Rattle.chart.specs.declared.Chart.{Chart}
-use Rattle.refusal.specs.declared.Refusal.{Refusal}
+use Rattle.refusal.specs.Numbers.{misdrawnNumber, misdrawnLine}
+use Rattle.rows.specs.declared.Chart.{Chart}
+use Rattle.refusal.specs.declared.Misdrawn.{Misdrawn}
 use Rattle.chart.specs.declared.Examination.the-variants.{Accepted, Refused}
 
 -- what is expected: a refusal, or the plate's columns and the numbers of its first line
@@ -50,10 +50,10 @@ pub record PlateHolds (text : List ℕ) (values choices steps : List Value) (rou
 
 -- a refusal with this number and line is answered
 pub record RefusalHolds (text : List ℕ) (number line : ℕ) : Type 0 where
-  pub refusal : Refusal
+  pub refusal : Misdrawn
   pub turned : examined text ≡ Refused refusal
-  pub number-is : refusalNumber refusal ≡ number
-  pub line-is : refusalLine refusal ≡ line
+  pub number-is : misdrawnNumber refusal ≡ number
+  pub line-is : misdrawnLine refusal ≡ line
 
 abbrev pub Holds : List ℕ → Expected → Type 0
 Holds text (refusal number line) = RefusalHolds text number line
@@ -61,19 +61,19 @@ Holds text (plate values choices steps rounds top evers) = PlateHolds text value
 
 -- lines of charts
 abbrev H : ℕ → ℕ → List ℕ
-H n m = lineText 72 n m
+H n m = chartLine 72 n m
 
 abbrev O : ℕ → ℕ → List ℕ
-O v mark = lineText 79 v mark
+O v mark = chartLine 79 v mark
 
 abbrev L : ℕ → ℕ → List ℕ
-L v mark = lineText 76 v mark
+L v mark = chartLine 76 v mark
 
 abbrev M : ℕ → ℕ → List ℕ
-M v w = lineText 77 v w
+M v w = chartLine 77 v w
 
 abbrev D : ℕ → ℕ → List ℕ
-D v w = lineText 68 v w
+D v w = chartLine 68 v w
 
 -- chart a
 unfoldable pub documentChart : List ℕ

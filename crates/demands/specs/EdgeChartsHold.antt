@@ -3,37 +3,42 @@
 use Prim.Native.Nat.{ℕ, zero, suc, _<_}
 use native.Mathlib.Omega.{arith}
 use native.Mathlib.Decide.{ℕ-discrete}
-use mathlib.Core.Path.{_≡_, refl, sym, ap, ap₂, subst, subst₂, _∙_}
+use mathlib.Core.Path.{_≡_, refl, sym, subst}
 use mathlib.Core.Logic.{⊎-elim}
-use mathlib.Core.Bool.{Bool, true, false, cond, not, _&&_, _||_}
-use mathlib.Core.List.{List, [], _∷_, _++_, List·Memᴰ, List·Memᴰ·cases-cons, List·Memᴰ·not-nil}
-use lib.ListN.{length, getD}
+use mathlib.Core.Bool.{Bool, true, false, _&&_}
+use mathlib.Core.List.{List, [], _∷_, List·Memᴰ, List·Memᴰ·cases-cons, List·Memᴰ·not-nil}
+use lib.ListN.{length}
 use lib.Dec.{T, eqb, eqb→eq}
-use Rattle.game.specs.Value.{Value, fin, ever, ltV, eqV, numberOf, valueOf}
+use Rattle.rows.specs.FirstLine.{firstLineOf}
+use Rattle.rows.specs.Numbers.{numberOf, valueOf}
+use Rattle.search.specs.Below.{someBelow, countBelow}
+use Rattle.search.specs.First.{firstFrom}
+use Rattle.game.specs.Value.{Value, fin, ever, ltV, eqV}
 use Rattle.game.specs.ValueLaws.{eqV-sound, fin-is-not-ever}
 use Rattle.game.specs.MoveTests.{and-left, and-right}
 use Rattle.game.specs.Arena.{Arena, WellFormed, size}
 use Rattle.game.specs.Worth.{IsValue}
-use Rattle.game.specs.Table.{Placement, unplaced, placed, placementAt, someMove, everyMove, meantFrom, disturbanceFrom, isPlaced, hasValue, readyAs, ready, begins, place, tableAfter, tableBefore, table, valueIn, stepIn, roundValue, roundStep}
+use Rattle.game.specs.Table.{Placement, unplaced, placed, placementAt, someMove, everyMove, meantFrom, disturbanceFrom, isPlaced, hasValue, readyAs, ready, begins, place, tableAfter, tableBefore, table, placedValue, placedStep, roundValue, roundStep}
 use Rattle.game.specs.Best.{better, bestIn, bestAs, bestAt}
 use Rattle.game.specs.BestLaws.{best-is-the-choice}
 use Rattle.game.specs.Choice.{IsChoice}
 use Rattle.game.specs.RoundValues.{rounds-give-the-values}
 use Rattle.game.specs.TableIsRounds.{rows-are-the-rounds, rows-have-the-never-placed}
-use Rattle.game.specs.Summary.{someBelow, countBelow, firstOfPair, pairCount, higher, highest, everCount}
+use Rattle.game.specs.FirstLine.{firstOfPair, pairCount, higher, highest, everCount}
 use Rattle.field.specs.Text.{digitAfter, stepped, scan, ended, fieldOf, five, fieldAt, placeByte, numberText}
-use Rattle.chart.specs.Text.{letterAt, firstAt, secondAt, endAt, markAt, numberOf as fieldNumber, isNumber, positionsOf, movesOf, fromAt, toAt}
-use Rattle.chart.specs.Meaning.{ownerOf, costOf, positionOn, moveOn, onLines, arenaOf, lineText}
-use Rattle.chart.specs.Examined.{numbered, formed, headerFormed, positionFormed, moveFormed, limitsOf, headerOf, judgedPosition, positionFinding, above, rises, ordered, judgedMove, moveFinding, lineFinding, orElse, firstOf, meantLine, meantIn, missingAt, unflaggedAt, answer, afterHeader, linesAfter, examined}
+use Rattle.chart.specs.Text.{letterAt, firstAt, secondAt, endAt, markAt, fieldNumber, isNumber, positionsOf, movesOf, fromAt, toAt}
+use Rattle.chart.specs.Meaning.{ownerOf, costOf, positionOn, moveOn, arenaOf}
+use Rattle.chart.specs.Examined.{numbered, formed, headerFormed, positionFormed, moveFormed, limitsOf, headerOf, judgedPosition, positionFinding, above, rises, ordered, judgedMove, moveFinding, lineFinding, orElse, meantLine, meantIn, missingAt, unflaggedAt, answer, afterHeader, linesAfter, examined}
 use Rattle.chart.specs.Accepted.{accepted-chartable}
-use Rattle.refusal.specs.Numbers.{refusalNumber, refusalLine}
-use Rattle.chart.specs.declared.Chart.{Chart}
-use Rattle.refusal.specs.declared.Refusal.{Refusal}
+use Rattle.refusal.specs.Numbers.{misdrawnNumber, misdrawnLine}
+use Rattle.rows.specs.declared.Chart.{Chart}
 use Rattle.chart.specs.declared.Examination.{Examination}
 use Rattle.chart.specs.declared.Examination.the-variants.{Accepted, Refused}
 use Rattle.demands.specs.EdgeCharts.{Expected, refusal, plate, Edge, entry, PairIs, PlateHolds, RefusalHolds, Holds, documentChart, documentPlate, edgeCharts}
-use Rattle.plate.specs.Text.{dashText, everText, entryText, lineText as plateLine, valueEntry, dashEntry, headerLine, positionLine, positionLines, plateText}
-use Rattle.writing.specs.Writing.{summaryOf, plateOf}
+use Rattle.line.specs.Text.{dashText, everText, entryText, fieldsText, lineText}
+use Rattle.line.specs.Joined.{joined}
+use Rattle.plate.specs.Text.{valueEntry, dashEntry, headerLine, positionLine, positionLines, plateText}
+use Rattle.writing.specs.Writing.{plateOf}
 
 -- two rows agree below n
 unfoldable pub agree : (ℕ → Value) → (ℕ → Value) → ℕ → Bool
@@ -52,7 +57,7 @@ agree-at f g (suc n) v h l = here (ℕ-discrete v n) (agree-at f g n v (and-righ
 -- The tests
 
 unfoldable pub isRefused : Examination → ℕ → ℕ → Bool
-isRefused (Refused r) number line = eqb (refusalNumber r) number && eqb (refusalLine r) line
+isRefused (Refused r) number line = eqb (misdrawnNumber r) number && eqb (misdrawnLine r) line
 isRefused (Accepted chart) number line = false
 
 unfoldable pub isAccepted : Examination → Bool
@@ -70,7 +75,7 @@ countsRight n values steps rounds top evers =
 
 -- computed, with all that they stand on
 unfoldable pub passes : List ℕ → Expected → Bool
-unfolding examined linesAfter afterHeader answer unflaggedAt missingAt meantIn meantLine firstOf orElse lineFinding moveFinding judgedMove ordered rises above positionFinding judgedPosition headerOf limitsOf moveFormed positionFormed headerFormed formed numbered toAt fromAt movesOf positionsOf isNumber fieldNumber markAt endAt secondAt firstAt letterAt fieldAt five fieldOf ended scan stepped digitAfter lineText numberText placeByte arenaOf onLines positionOn moveOn ownerOf costOf isRefused isAccepted rowsRight countsRight agree eqV ltV roundValue roundStep valueIn stepIn table tableBefore tableAfter place isPlaced hasValue begins ready readyAs someMove everyMove meantFrom disturbanceFrom bestAt bestAs bestIn better pairCount firstOfPair countBelow someBelow highest higher everCount
+unfolding examined linesAfter afterHeader answer unflaggedAt missingAt meantIn meantLine firstFrom orElse lineFinding moveFinding judgedMove ordered rises above positionFinding judgedPosition headerOf limitsOf moveFormed positionFormed headerFormed formed numbered toAt fromAt movesOf positionsOf isNumber fieldNumber markAt endAt secondAt firstAt letterAt fieldAt five fieldOf ended scan stepped digitAfter lineText fieldsText entryText numberText placeByte arenaOf joined positionOn moveOn ownerOf costOf isRefused isAccepted rowsRight countsRight agree eqV ltV roundValue roundStep placedValue placedStep table tableBefore tableAfter place isPlaced hasValue begins ready readyAs someMove everyMove meantFrom disturbanceFrom bestAt bestAs bestIn better pairCount firstOfPair countBelow someBelow highest higher everCount
 passes text (refusal number line) = isRefused (examined text) number line
 passes text (plate values choices steps rounds top evers) =
     isAccepted (examined text) && (rowsRight (arenaOf text) values choices steps && countsRight (size (arenaOf text)) values steps rounds top evers)
@@ -86,19 +91,19 @@ refusal-passes text number line h = go (examined text) refl h
         record {
           refusal = r;
           turned = e;
-          number-is = eqb→eq (refusalNumber r) number (and-left (eqb (refusalNumber r) number) (eqb (refusalLine r) line) h);
-          line-is = eqb→eq (refusalLine r) line (and-right (eqb (refusalNumber r) number) (eqb (refusalLine r) line) h);
+          number-is = eqb→eq (misdrawnNumber r) number (and-left (eqb (misdrawnNumber r) number) (eqb (misdrawnLine r) line) h);
+          line-is = eqb→eq (misdrawnLine r) line (and-right (eqb (misdrawnNumber r) number) (eqb (misdrawnLine r) line) h);
         }
     go (Accepted chart) e h = absurd h
 
 -- a value is finite exactly where the step is
-both-finite : (p : Placement) (k : ℕ) → valueIn p ≡ fin k → stepIn p ≡ ever → ⊥
-unfolding valueIn stepIn
+both-finite : (p : Placement) (k : ℕ) → placedValue p ≡ fin k → placedStep p ≡ ever → ⊥
+unfolding placedValue placedStep
 both-finite unplaced k e f = fin-is-not-ever k (sym e)
 both-finite (placed j s) k e f = fin-is-not-ever s f
 
-both-ever : (p : Placement) (s : ℕ) → valueIn p ≡ ever → stepIn p ≡ fin s → ⊥
-unfolding valueIn stepIn
+both-ever : (p : Placement) (s : ℕ) → placedValue p ≡ ever → placedStep p ≡ fin s → ⊥
+unfolding placedValue placedStep
 both-ever unplaced s e f = fin-is-not-ever s (sym f)
 both-ever (placed j t) s e f = fin-is-not-ever j e
 
@@ -181,5 +186,5 @@ edge-charts-hold e m = all-hold edgeCharts tt e m
 
 -- chart a's plate is the bytes that document 01 prints
 pub document-plate : plateOf (arenaOf documentChart) ≡ documentPlate
-unfolding documentChart documentPlate plateOf summaryOf plateText headerLine positionLines positionLine plateLine valueEntry dashEntry entryText dashText everText numberOf valueOf passes
+unfolding documentChart documentPlate plateOf firstLineOf plateText headerLine positionLines positionLine joined lineText fieldsText valueEntry dashEntry entryText dashText everText numberOf valueOf passes
 document-plate = refl

@@ -4,5 +4,6 @@ pub mod Demand2
 pub mod Demand3
 pub mod EdgeCharts
 pub mod SanctionedLaws
+pub mod ReadBack
 pub mod Demand3Holds
 pub mod EdgeChartsHold

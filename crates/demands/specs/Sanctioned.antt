@@ -6,8 +6,8 @@ use mathlib.Core.List.{List}
 use lib.ListN.{take}
 use Rattle.writing.specs.Writing.{WrittenIs}
 use Rattle.writing.specs.declared.Written.the-variants.{Length}
-use Rattle.audit.specs.Checking.{checked}
-use Rattle.audit.specs.declared.Checked.the-variants.{Accepted}
+use Rattle.checking.specs.Checking.{checked}
+use Rattle.checking.specs.declared.Checked.the-variants.{Accepted}
 
 pub data Sanctioned (text plate : List ℕ) : Type 0 where
   -- the first k bytes of a buffer into which Writing, given the chart, wrote a plate of length k

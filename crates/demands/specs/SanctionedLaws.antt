@@ -3,29 +3,26 @@ use Prim.Native.Nat.{ℕ, _+_, _*_}
 use native.Mathlib.Omega.{arith}
 use mathlib.Core.Path.{_≡_, refl, sym, ap, subst, _∙_}
 use mathlib.Core.Bool.{Bool, true, false, cond}
-use mathlib.Core.List.{List, _++_}
+use mathlib.Core.List.{List}
 use lib.ListN.{length, take, drop}
 use lib.Seq.{take-at}
 use lib.Dec.{leb}
-use Rattle.game.specs.ValueLaws.{Fits, value-of-number}
-use Rattle.game.specs.Value.{Value, valueOf}
+use Rattle.rows.specs.FirstLine.{FirstLineIs, firstLineOf}
 use Rattle.game.specs.Arena.{Arena, size}
 use Rattle.game.specs.Table.{roundValue, roundStep}
-use Rattle.game.specs.Summary.{highest}
 use Rattle.chart.specs.Meaning.{arenaOf}
 use Rattle.chart.specs.Examined.{examined}
-use Rattle.chart.specs.Accepted.{accepted-size, accepted-chartable}
-use Rattle.chart.specs.declared.Chart.{Chart}
+use Rattle.chart.specs.Accepted.{accepted-size}
+use Rattle.rows.specs.declared.Chart.{Chart}
 use Rattle.chart.specs.declared.Examination.{Examination}
 use Rattle.chart.specs.declared.Examination.the-variants.{Accepted as Taken, Refused}
-use Rattle.writing.specs.Writing.{plateOf, summaryOf, written, writtenBy, WrittenIs}
+use Rattle.writing.specs.Writing.{plateOf, roundsFirstLine, written, writtenBy, WrittenIs}
 use Rattle.writing.specs.WritingLaws.{plate-length}
-use Rattle.writing.specs.declared.Written.{Written}
-use Rattle.writing.specs.declared.Written.the-variants.{Length, Refused as Turned, Short}
-use Rattle.verdict.specs.Verdict.{HeaderIs}
-use Rattle.audit.specs.Checking.{checked}
-use Rattle.audit.specs.Plates.{rounds-plate-is-accepted}
-use Rattle.audit.specs.declared.Checked.the-variants.{Accepted}
+use Rattle.refusal.specs.declared.Refusal.the-variants.{Short}
+use Rattle.writing.specs.declared.Written.the-variants.{Length, Refused as Turned}
+use Rattle.checking.specs.Checking.{checked}
+use Rattle.checking.specs.Plates.{rounds-plate-is-accepted}
+use Rattle.checking.specs.declared.Checked.the-variants.{Accepted}
 use Rattle.demands.specs.Sanctioned.{Sanctioned, byWriting, byChecking}
 
 -- where Writing answered a length, it took the chart, and the length is the plate's
@@ -38,7 +35,7 @@ writing-took : (text : List ℕ) (room k : ℕ) → Length k ≡ written text ro
 unfolding written writtenBy
 writing-took text room k e = go (examined text) refl e
   where
-    both : (chart : Chart) → examined text ≡ Taken chart → (b : Bool) → Length k ≡ cond b (Length ((chart .positions + 1) * 22)) Short → Took text k
+    both : (chart : Chart) → examined text ≡ Taken chart → (b : Bool) → Length k ≡ cond b (Length ((chart .positions + 1) * 22)) (Turned Short) → Took text k
     both chart t true e = record { chart = chart; taken = t; length-is = cc }
     both chart t false e = let z : _≡_ {A = ℕ} 0 1 = cc in absurd (omega arith)
 
@@ -55,9 +52,9 @@ written-plate {text} {out} {k} w =
     ap (take k) (w .taken k refl) ∙ take-at (plateOf (arenaOf text)) (drop k out) k (plate-length (arenaOf text) ∙ omega (arith, n, l))
 
 -- and its header is counted from its rows
-summary-is-counted : (a : Arena) → HeaderIs (size a) (roundValue a) (roundStep a) (summaryOf a)
-unfolding summaryOf
-summary-is-counted a = record { rounds-counted = refl; highest-value = refl; evers-counted = refl }
+first-line-is-counted : (a : Arena) → FirstLineIs (size a) (roundValue a) (roundStep a) (roundsFirstLine a)
+unfolding firstLineOf
+first-line-is-counted a = record { rounds = refl; highest-value = refl; evers = refl }
 
 pub sanctioned-is-accepted : (text plate : List ℕ) → Sanctioned text plate → checked text plate ≡ Accepted
 unfolding plateOf
@@ -65,4 +62,4 @@ sanctioned-is-accepted text plate (byChecking e) = e
 sanctioned-is-accepted text plate (byWriting {out = out} {k = k} w e) =
     let t = writing-took text (length out) k (w .answer) in
     subst (λ (p : List ℕ). checked text p ≡ Accepted) (sym (e ∙ written-plate w))
-    (rounds-plate-is-accepted text (t .chart) (t .taken) (summaryOf (arenaOf text)) (summary-is-counted (arenaOf text)))
+    (rounds-plate-is-accepted text (t .chart) (t .taken) (roundsFirstLine (arenaOf text)) (first-line-is-counted (arenaOf text)))

@@ -150,7 +150,7 @@ five-bytes a b c d e x =
     (omega arith, w .1 ∙ sym (place-digit x 10000 (w .0) (omega arith) (omega arith)), w .4 .1 ∙ sym (place-digit x 1000 (w .4 .0) (omega arith) (omega arith)), w .4 .3 .1 ∙ sym (place-digit x 100 (w .4 .3 .0) (omega arith) (omega arith)), w .4 .3 .3 .1 ∙ sym (place-digit x 10 (w .4 .3 .3 .0) (omega arith) (omega arith)), w .4 .3 .3 .3 .1 ∙ omega arith)))
 
 -- the bytes that read as a number are the bytes of that number
-pub reads-number : (bytes : List ℕ) (x : ℕ) → length bytes ≡ 5 → fieldOf bytes ≡ Number x → (bytes ≡ numberText x) × (x ≤ 99999)
+reads-number : (bytes : List ℕ) (x : ℕ) → length bytes ≡ 5 → fieldOf bytes ≡ Number x → (bytes ≡ numberText x) × (x ≤ 99999)
 unfolding fieldOf numberText
 reads-number [] x l e = absurd (omega arith)
 reads-number (a ∷ []) x l e = absurd (omega arith)
@@ -302,9 +302,7 @@ five-splits text at h =
       drop-cons text (suc (suc (suc (suc at)))) 0 (omega arith),
     ))
 
--- a field that reads as x is the bytes of x, within the text
-pub number-stands : (text : List ℕ) (at x : ℕ) → at + 5 ≤ length text → fieldAt text at ≡ Number x → (drop at text ≡ numberText x ++ drop (at + 5) text) × (x ≤ 99999)
+-- a field's number has at most five digits
+pub field-small : (text : List ℕ) (at x : ℕ) → fieldAt text at ≡ Number x → x ≤ 99999
 unfolding fieldAt five
-number-stands text at x h e =
-    let r = reads-number (five text at) x refl e in
-    (five-splits text at h ∙ ap (λ (l : List ℕ). l ++ drop (at + 5) text) (r .0), r .1)
+field-small text at x e = reads-number (five text at) x refl e .1

@@ -7,9 +7,8 @@ use mathlib.Core.Bool.{Bool, true, false, not, cond}
 use mathlib.Core.List.{List, [], _∷_}
 use lib.Dec.{ltb, leb, eqb}
 use borrow.Author.Tests.{ltb-false, leb-true, leb-false, eqb-true, le-ltb, lt-ltb, not-true, not-false}
-use Rattle.field.specs.Text.{Scan, Spaces, Zero, Digits, Wrong, digitAfter, stepped, scan, ended, fieldOf}
+use Rattle.field.specs.Text.{Scan, Digits, Wrong, digitAfter, stepped, scan, ended, fieldOf}
 use Rattle.field.specs.Laws.{wrong-stays}
-use Rattle.field.specs.declared.Field.{Field}
 use Rattle.field.specs.declared.Field.the-variants.{Number, Bad}
 
 false-true : _≡_ {A = Bool} false true → ⊥

@@ -1,7 +1,6 @@
 -- The arena that a chart means (document 01, "The chart"): positions, each with an owner and a mark, and moves.
 -- These are data; when an arena is well-formed is said at the end.
-use Prim.Native.Nat.{ℕ, zero, suc, _<_}
-use mathlib.Core.Path.{_≡_}
+use Prim.Native.Nat.{ℕ, suc, _<_}
 use mathlib.Core.Bool.{Bool, true, false}
 use mathlib.Core.List.{List, List·Memᴰ}
 use lib.ListN.{length, getD}
@@ -17,7 +16,7 @@ pub record Position : Type 0 where
   pub owner : Owner
   pub mark : ℕ
 
--- cost 0 is a meant move (`M`), cost 1 a disturbance (`D`)
+-- cost 0 is a meant move (`M`), any other cost a disturbance (`D`)
 pub record Move : Type 0 where
   pub cost : ℕ
   pub from : ℕ
@@ -51,20 +50,20 @@ ownerAt a v = positionAt a v .owner
 abbrev pub unsafe : Arena → ℕ → Bool
 unsafe a v = eqb (positionAt a v .mark) 1
 
--- `M from to` and `D from to` as moves
+-- `M from to` as a move, and `D from to` as one of this cost
 abbrev pub meantMove : ℕ → ℕ → Move
 meantMove v w = record { cost = 0; from = v; to = w }
 
-abbrev pub disturbanceMove : ℕ → ℕ → Move
-disturbanceMove v w = record { cost = 1; from = v; to = w }
+abbrev pub disturbanceMove : ℕ → ℕ → ℕ → Move
+disturbanceMove c v w = record { cost = c; from = v; to = w }
 
 -- w is a meant target of v
 abbrev pub Meant : Arena → ℕ → ℕ → Type 0
 Meant a v w = List·Memᴰ (meantMove v w) (a .moves)
 
--- a disturbance leads from v to w
+-- a disturbance leads from v to w: a move whose cost is not 0
 abbrev pub Disturbance : Arena → ℕ → ℕ → Type 0
-Disturbance a v w = List·Memᴰ (disturbanceMove v w) (a .moves)
+Disturbance a v w = (c : ℕ) × List·Memᴰ (disturbanceMove (suc c) v w) (a .moves)
 
 -- "Disturbances leave O positions only."
 abbrev pub mayBeDisturbed : Owner → Bool

@@ -1,6 +1,6 @@
 -- The choice as a computation: one walk over the moves that keeps the best target so far.
 use Prim.Native.Nat.{ℕ}
-use mathlib.Core.Bool.{Bool, true, false, cond, _&&_, _||_}
+use mathlib.Core.Bool.{cond, _&&_, _||_}
 use mathlib.Core.List.{List, [], _∷_}
 use lib.Dec.{ltb}
 use Rattle.game.specs.Value.{Value, fin, ever, ltV, eqV}

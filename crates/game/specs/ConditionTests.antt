@@ -6,16 +6,15 @@ use mathlib.Core.Bool.{Bool, true, false, cond, _&&_, _||_, not, true≢false}
 use lib.Dec.{T, T-not}
 use Rattle.game.specs.Value.{Value, fin, ever, _⊕_, leV, ltV, eqV}
 use Rattle.game.specs.Arena.{Arena, Owner, controller, environment, ownerAt, unsafe}
-use Rattle.game.specs.Play.{disturbanceCost, targetOf, LegalAs}
-use Rattle.game.specs.Certificate.{Earlier, HoldingAs, RuinAs}
-use Rattle.game.specs.Table.{someMove, everyMove, meantFrom, disturbanceFrom}
-use Rattle.game.specs.Fault.{earlier, unsafeZero, dashed, legalAs, holdsAs, ruinedAs, ruined}
+use Rattle.game.specs.Play.{disturbanceCost, targetOf, LegalAs, LegalAt}
+use Rattle.game.specs.Certificate.{UnsafeZeroAt, DashAt, MeantHold, DisturbancesHold, HoldingAt, Earlier, MeantRuin, DisturbanceRuins, RuinAt}
+use Rattle.game.specs.Fault.{earlier, unsafeZero, dashed, legalAs, meantHold, disturbancesHold, holds, meantRuin, disturbanceRuins, ruined}
 use Rattle.game.specs.ValueLaws.{leV-sound, ltV-sound, eqV-sound, fin-is-not-ever}
-use Rattle.game.specs.MoveTests.{and-left, and-right, and-both, or-cases, or-left, or-right, passes-or-fails, some-meant, every-meant, some-disturbance, every-disturbance}
+use Rattle.game.specs.MoveTests.{and-test, or-test, or-cases, or-left, or-right, passes-or-fails, some-meant, every-meant, some-disturbance, every-disturbance}
 
 module _ (a : Arena) (value choice step : ℕ → Value) where
   -- condition 1
-  pub unsafe-zero-test : (v : ℕ) → T (unsafeZero a value choice step v) ↔ (T (unsafe a v) → value v ≡ fin 0)
+  pub unsafe-zero-test : (v : ℕ) → T (unsafeZero a value choice step v) ↔ UnsafeZeroAt a value choice step v
   unfolding unsafeZero
   unsafe-zero-test v = (to, from (passes-or-fails (unsafe a v)))
     where
@@ -31,7 +30,7 @@ module _ (a : Arena) (value choice step : ℕ → Value) where
       from (inr s) h = or-left (not (unsafe a v)) (eqV (value v) (fin 0)) s
 
   -- condition 2
-  pub dash-test : (v : ℕ) → T (dashed a value choice step v) ↔ ((step v ≡ ever) ↔ (value v ≡ ever))
+  pub dash-test : (v : ℕ) → T (dashed a value choice step v) ↔ DashAt a value choice step v
   unfolding dashed eqV
   dash-test v = go (value v) (step v)
     where
@@ -54,87 +53,67 @@ module _ (a : Arena) (value choice step : ℕ → Value) where
   legal-test environment v = eqV-sound (choice v) ever
 
   -- condition 4, where 3 holds
-  pub holding-test : (o : Owner) (v : ℕ) → LegalAs o a v (choice v) → T (holdsAs a value choice step o v) ↔ HoldingAs a value choice step o v
-  unfolding holdsAs targetOf
-  holding-test controller v l = (
-    λ h. (
-      λ w e. leV-sound (value v) (value w) .0 (subst (λ (x : Value). T (leV (value v) (value (targetOf x)))) e (and-left own disturbances h)),
-      λ w d. leV-sound (value v) (value w ⊕ disturbanceCost a v w) .0 (every-disturbance a v q .0 (and-right own disturbances h) w d),
-    ),
-    λ h. and-both own disturbances
-        (subst (λ (x : Value). T (leV (value v) (value (targetOf x)))) (sym (l .1)) (leV-sound (value v) (value (l .0)) .1 (h .0 (l .0) (l .1))))
-        (every-disturbance a v q .1 (λ w d. leV-sound (value v) (value w ⊕ disturbanceCost a v w) .1 (h .1 w d))),
+  meant-hold-test : (o : Owner) (v : ℕ) → LegalAs o a v (choice v) → T (meantHold a value choice step o v) ↔ MeantHold a value choice step o v
+  unfolding meantHold targetOf
+  meant-hold-test controller v l = (
+    λ h w e. leV-sound (value v) (value w) .0 (subst (λ (x : Value). T (leV (value v) (value (targetOf x)))) e h),
+    λ h. subst (λ (x : Value). T (leV (value v) (value (targetOf x)))) (sym (l .1)) (leV-sound (value v) (value (l .0)) .1 (h (l .0) (l .1))),
+  )
+  meant-hold-test environment v l = (
+    λ h w m. leV-sound (value v) (value w) .0 (every-meant a v (λ u. leV (value v) (value u)) .0 h w m),
+    λ h. every-meant a v (λ u. leV (value v) (value u)) .1 (λ w m. leV-sound (value v) (value w) .1 (h w m)),
+  )
+
+  disturbances-hold-test : (v : ℕ) → T (disturbancesHold a value choice step v) ↔ DisturbancesHold a value choice step v
+  unfolding disturbancesHold
+  disturbances-hold-test v = (
+    λ h w d. leV-sound (value v) (value w ⊕ disturbanceCost a v w) .0 (every-disturbance a v q .0 h w d),
+    λ h. every-disturbance a v q .1 (λ w d. leV-sound (value v) (value w ⊕ disturbanceCost a v w) .1 (h w d)),
   )
     where
       q : ℕ → Bool
       q w = leV (value v) (value w ⊕ disturbanceCost a v w)
 
-      own : Bool
-      own = leV (value v) (value (targetOf (choice v)))
-
-      disturbances : Bool
-      disturbances = everyMove (λ m. not (disturbanceFrom v m) || q (m .to)) (a .moves)
-  holding-test environment v l = (
-    λ h w m. leV-sound (value v) (value w) .0 (every-meant a v (λ u. leV (value v) (value u)) .0 h w m),
-    λ h. every-meant a v (λ u. leV (value v) (value u)) .1 (λ w m. leV-sound (value v) (value w) .1 (h w m)),
-  )
+  pub holding-test : (v : ℕ) → LegalAt a choice v → T (holds a value choice step v) ↔ HoldingAt a value choice step v
+  unfolding holds
+  holding-test v l =
+      and-test (meantHold a value choice step (ownerAt a v) v) (disturbancesHold a value choice step v) (meant-hold-test (ownerAt a v) v l) (disturbances-hold-test v)
 
   -- condition 5
   pub earlier-test : (w v : ℕ) → T (earlier a value choice step w v) ↔ Earlier a value choice step w v
   unfolding earlier
-  earlier-test w v = (λ h. to (or-cases less (same && sooner) h), from)
-    where
-      less : Bool
-      less = ltV (value w) (value v)
+  earlier-test w v =
+      or-test (ltV (value w) (value v)) (eqV (value w) (value v) && ltV (step w) (step v)) (ltV-sound (value w) (value v))
+      (and-test (eqV (value w) (value v)) (ltV (step w) (step v)) (eqV-sound (value w) (value v)) (ltV-sound (step w) (step v)))
 
-      same : Bool
-      same = eqV (value w) (value v)
-
-      sooner : Bool
-      sooner = ltV (step w) (step v)
-
-      to : T less ⊎ T (same && sooner) → Earlier a value choice step w v
-      to (inl h) = inl (ltV-sound (value w) (value v) .0 h)
-      to (inr h) = inr (eqV-sound (value w) (value v) .0 (and-left same sooner h), ltV-sound (step w) (step v) .0 (and-right same sooner h))
-
-      from : Earlier a value choice step w v → T (less || (same && sooner))
-      from (inl h) = or-left less (same && sooner) (ltV-sound (value w) (value v) .1 h)
-      from (inr h) = or-right less (same && sooner) (and-both same sooner (eqV-sound (value w) (value v) .1 (h .0)) (ltV-sound (step w) (step v) .1 (h .1)))
-
-  pub ruin-test-as : (o : Owner) (v : ℕ) → T (ruinedAs a value choice step o v) ↔ RuinAs a value choice step o v
-  unfolding ruinedAs
-  ruin-test-as controller v = (λ h. to (or-cases disturbed left h), from)
-    where
-      q : ℕ → Bool
-      q w = leV (value w ⊕ disturbanceCost a v w) (value v)
-
-      sooner : ℕ → Bool
-      sooner w = earlier a value choice step w v
-
-      disturbed : Bool
-      disturbed = someMove (λ m. disturbanceFrom v m && q (m .to)) (a .moves)
-
-      left : Bool
-      left = everyMove (λ m. not (meantFrom v m) || sooner (m .to)) (a .moves)
-
-      to : T disturbed ⊎ T left → RuinAs a value choice step controller v
-      to (inl h) = let r = some-disturbance a v q .0 h in inl (r .0, r .1, leV-sound (value (r .0) ⊕ disturbanceCost a v (r .0)) (value v) .0 (r .2))
-      to (inr h) = inr (λ w m. earlier-test w v .0 (every-meant a v sooner .0 h w m))
-
-      from : RuinAs a value choice step controller v → T (disturbed || left)
-      from (inl (w, d, h)) = or-left disturbed left (some-disturbance a v q .1 (w, d, leV-sound (value w ⊕ disturbanceCost a v w) (value v) .1 h))
-      from (inr all) = or-right disturbed left (every-meant a v sooner .1 (λ w m. earlier-test w v .1 (all w m)))
-  ruin-test-as environment v = (
+  meant-ruin-test : (o : Owner) (v : ℕ) → T (meantRuin a value choice step o v) ↔ MeantRuin a value choice step o v
+  unfolding meantRuin
+  meant-ruin-test controller v = (
+    λ h w m. earlier-test w v .0 (every-meant a v (λ w. earlier a value choice step w v) .0 h w m),
+    λ all. every-meant a v (λ w. earlier a value choice step w v) .1 (λ w m. earlier-test w v .1 (all w m)),
+  )
+  meant-ruin-test environment v = (
     λ h. let r = some-meant a v (λ w. earlier a value choice step w v) .0 h in (r .0, r .1, earlier-test (r .0) v .0 (r .2)),
     λ r. some-meant a v (λ w. earlier a value choice step w v) .1 (r .0, r .1, earlier-test (r .0) v .1 (r .2)),
   )
 
-  pub ruin-test : (v : ℕ) → T (ruined a value choice step v) ↔ (unsafe a v ≡ false → (k : ℕ) → value v ≡ fin k → RuinAs a value choice step (ownerAt a v) v)
+  disturbance-ruins-test : (v : ℕ) → T (disturbanceRuins a value choice step v) ↔ DisturbanceRuins a value choice step v
+  unfolding disturbanceRuins
+  disturbance-ruins-test v = (
+    λ h. let r = some-disturbance a v q .0 h in (r .0, r .1, leV-sound (value (r .0) ⊕ disturbanceCost a v (r .0)) (value v) .0 (r .2)),
+    λ (w, d, h). some-disturbance a v q .1 (w, d, leV-sound (value w ⊕ disturbanceCost a v w) (value v) .1 h),
+  )
+    where
+      q : ℕ → Bool
+      q w = leV (value w ⊕ disturbanceCost a v w) (value v)
+
+  pub ruin-test : (v : ℕ) → T (ruined a value choice step v) ↔ RuinAt a value choice step v
   unfolding ruined eqV
-  ruin-test v = go (unsafe a v) (value v) (ruin-test-as (ownerAt a v) v)
+  ruin-test v =
+      go (unsafe a v) (value v) (or-test (disturbanceRuins a value choice step v) (meantRuin a value choice step (ownerAt a v) v) (disturbance-ruins-test v) (meant-ruin-test (ownerAt a v) v))
     where
       test : Bool
-      test = ruinedAs a value choice step (ownerAt a v) v
+      test = disturbanceRuins a value choice step v || meantRuin a value choice step (ownerAt a v) v
 
       go : (u : Bool) (x : Value) {C : Type 0} → T test ↔ C → T (u || eqV x ever || test) ↔ (u ≡ false → (k : ℕ) → x ≡ fin k → C)
       go true x c = (λ h e. absurd (true≢false e), λ h. tt)

@@ -1,8 +1,8 @@
 -- Conditions 1 to 5 as a computation: the first that fails at a position.
 use Prim.Native.Nat.{ℕ}
-use mathlib.Core.Bool.{Bool, true, false, cond, _&&_, _||_, not}
+use mathlib.Core.Bool.{Bool, cond, _&&_, _||_, not}
 use Rattle.game.specs.Value.{Value, fin, ever, leV, ltV, eqV, _⊕_}
-use Rattle.game.specs.Arena.{Arena, Move, Owner, controller, environment, ownerAt, unsafe}
+use Rattle.game.specs.Arena.{Arena, Owner, controller, environment, ownerAt, unsafe}
 use Rattle.game.specs.Play.{disturbanceCost, targetOf}
 use Rattle.game.specs.Table.{someMove, everyMove, meantFrom, disturbanceFrom}
 
@@ -24,21 +24,26 @@ module _ (a : Arena) (value choice step : ℕ → Value) where
   legalAs environment v = eqV (choice v) ever
 
   -- condition 4, where 3 holds
-  unfoldable pub holdsAs : Owner → ℕ → Bool
-  holdsAs controller v =
-      leV (value v) (value (targetOf (choice v)))
-      && everyMove (λ m. not (disturbanceFrom v m) || leV (value v) (value (m .to) ⊕ disturbanceCost a v (m .to))) (a .moves)
-  holdsAs environment v = everyMove (λ m. not (meantFrom v m) || leV (value v) (value (m .to))) (a .moves)
+  unfoldable pub meantHold : Owner → ℕ → Bool
+  meantHold controller v = leV (value v) (value (targetOf (choice v)))
+  meantHold environment v = everyMove (λ m. not (meantFrom v m) || leV (value v) (value (m .to))) (a .moves)
+
+  unfoldable pub disturbancesHold : ℕ → Bool
+  disturbancesHold v = everyMove (λ m. not (disturbanceFrom v m) || leV (value v) (value (m .to) ⊕ disturbanceCost a v (m .to))) (a .moves)
+
+  unfoldable pub holds : ℕ → Bool
+  holds v = meantHold (ownerAt a v) v && disturbancesHold v
 
   -- condition 5
-  unfoldable pub ruinedAs : Owner → ℕ → Bool
-  ruinedAs controller v =
-      someMove (λ m. disturbanceFrom v m && leV (value (m .to) ⊕ disturbanceCost a v (m .to)) (value v)) (a .moves)
-      || everyMove (λ m. not (meantFrom v m) || earlier (m .to) v) (a .moves)
-  ruinedAs environment v = someMove (λ m. meantFrom v m && earlier (m .to) v) (a .moves)
+  unfoldable pub meantRuin : Owner → ℕ → Bool
+  meantRuin controller v = everyMove (λ m. not (meantFrom v m) || earlier (m .to) v) (a .moves)
+  meantRuin environment v = someMove (λ m. meantFrom v m && earlier (m .to) v) (a .moves)
+
+  unfoldable pub disturbanceRuins : ℕ → Bool
+  disturbanceRuins v = someMove (λ m. disturbanceFrom v m && leV (value (m .to) ⊕ disturbanceCost a v (m .to)) (value v)) (a .moves)
 
   unfoldable pub ruined : ℕ → Bool
-  ruined v = unsafe a v || eqV (value v) ever || ruinedAs (ownerAt a v) v
+  ruined v = unsafe a v || eqV (value v) ever || (disturbanceRuins v || meantRuin (ownerAt a v) v)
 
   -- the first condition that fails at v, 0 if none does
   unfoldable pub faultAt : ℕ → ℕ
@@ -46,5 +51,5 @@ module _ (a : Arena) (value choice step : ℕ → Value) where
       cond (not (unsafeZero v)) 1
       (cond (not (dashed v)) 2
       (cond (not (legalAs (ownerAt a v) v)) 3
-      (cond (not (holdsAs (ownerAt a v) v)) 4
+      (cond (not (holds v)) 4
       (cond (not (ruined v)) 5 0))))

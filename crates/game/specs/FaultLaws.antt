@@ -11,7 +11,7 @@ use lib.ListN.{List·getD-eq-default}
 use Rattle.game.specs.Value.{Value}
 use Rattle.game.specs.Arena.{Arena, ownerAt}
 use Rattle.game.specs.Certificate.{CertifiedAt}
-use Rattle.game.specs.Fault.{unsafeZero, dashed, legalAs, holdsAs, ruined, faultAt}
+use Rattle.game.specs.Fault.{unsafeZero, dashed, legalAs, holds, ruined, faultAt}
 use Rattle.game.specs.FirstFault.{conditions, Condition, FirstFault}
 use Rattle.game.specs.ConditionTests.{unsafe-zero-test, dash-test, legal-test, holding-test, ruin-test}
 
@@ -40,7 +40,7 @@ module _ (a : Arena) (value choice step : ℕ → Value) where
       next v 0 _ (unsafeZero a value choice step v) none (unsafe-zero-test a value choice step v) λ p1.
       next v 1 _ (dashed a value choice step v) p1 (dash-test a value choice step v) λ p2.
       next v 2 _ (legalAs a value choice step (ownerAt a v) v) p2 (legal-test a value choice step (ownerAt a v) v) λ p3.
-      next v 3 _ (holdsAs a value choice step (ownerAt a v) v) p3 (holding-test a value choice step (ownerAt a v) v (p3 3 (omega arith))) λ p4.
+      next v 3 _ (holds a value choice step v) p3 (holding-test a value choice step v (p3 3 (omega arith))) λ p4.
       next v 4 0 (ruined a value choice step v) p4 (ruin-test a value choice step v) λ p5 j. go j p5 (decLt j 6)
     where
       none : (j : ℕ) → j < 1 → Condition a value choice step j v

@@ -1,26 +1,22 @@
 -- Conditions 1 to 5 by their numbers, and the first that fails at a position ("The first fault is the answer .. and in each the conditions in order").
 use Prim.Native.Nat.{ℕ, zero, suc, _<_}
-use mathlib.Core.Path.{_≡_}
-use mathlib.Core.Logic.{_↔_}
-use mathlib.Core.Bool.{false}
 use mathlib.Core.List.{List, [], _∷_}
 use lib.ListN.{getD}
-use lib.Dec.{T}
-use Rattle.game.specs.Value.{Value, fin, ever}
-use Rattle.game.specs.Arena.{Arena, ownerAt, unsafe}
+use Rattle.game.specs.Value.{Value}
+use Rattle.game.specs.Arena.{Arena}
 use Rattle.game.specs.Play.{LegalAt}
-use Rattle.game.specs.Certificate.{HoldingAs, RuinAs}
+use Rattle.game.specs.Certificate.{UnsafeZeroAt, DashAt, HoldingAt, RuinAt}
 
 module _ (a : Arena) (value choice step : ℕ → Value) where
-  -- 1 to 5, as in `CertifiedAt`; 0 asks nothing
+  -- 1 to 5; 0 asks nothing
   abbrev pub conditions : ℕ → List (Type 0)
   conditions v =
       Unit {0}
-      ∷ (T (unsafe a v) → value v ≡ fin 0)
-      ∷ ((step v ≡ ever) ↔ (value v ≡ ever))
+      ∷ UnsafeZeroAt a value choice step v
+      ∷ DashAt a value choice step v
       ∷ LegalAt a choice v
-      ∷ HoldingAs a value choice step (ownerAt a v) v
-      ∷ (unsafe a v ≡ false → (k : ℕ) → value v ≡ fin k → RuinAs a value choice step (ownerAt a v) v)
+      ∷ HoldingAt a value choice step v
+      ∷ RuinAt a value choice step v
       ∷ []
 
   abbrev pub Condition : ℕ → ℕ → Type 0

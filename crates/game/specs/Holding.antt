@@ -10,9 +10,9 @@ use lib.Dec.{T}
 use Rattle.game.specs.Value.{Value, fin, _≼_, _≺_, _⊕_}
 use Rattle.game.specs.Arena.{Arena, Owner, controller, environment, ownerAt, unsafe, Meant, Disturbance, WellFormed}
 use Rattle.game.specs.Play.{Trail, still, meant, disturbed, last, cost, disturbanceCost, Controller, Allows, Play, Unsafe, LegalAs, Legal, positional, targetOf}
-use Rattle.game.specs.Certificate.{CertifiedAt, Certificate, HoldingAs}
+use Rattle.game.specs.Certificate.{CertifiedAt, Certificate, MeantHold}
 use Rattle.game.specs.ValueLaws.{fin≼, ≼refl, ≼trans, ≺-not-≼, ⊕zero, ⊕mono, ⊕≼trans, ⊕fin}
-use Rattle.game.specs.PlayLaws.{environment-is-not-controller, target-is-named, stays-inside, disturbed-is-controller, positional-pick}
+use Rattle.game.specs.PlayLaws.{environment-is-not-controller, target-is-named, stays-inside, positional-pick}
 use Rattle.game.specs.Bounds.{AtLeast}
 
 -- Wherever a play of the controller from v stands at a position of its own, the pick's value is at least the value there.
@@ -30,18 +30,18 @@ module _ (a : Arena) (value choice step : ℕ → Value) where
       → x ≼ value v ⊕ c
       → x ≼ value w ⊕ c
   meant-move-holds v p w c x at keeps m allowed h =
-      ≼trans _ _ _ h (⊕mono _ _ c c (go (ownerAt a v) keeps allowed (at .holding)) (omega arith))
+      ≼trans _ _ _ h (⊕mono _ _ c c (go (ownerAt a v) keeps allowed (at .holding .0)) (omega arith))
     where
-      go : (o : Owner) → (o ≡ controller → value v ≼ value p) → Allows o p w → HoldingAs a value choice step o v → value v ≼ value w
+      go : (o : Owner) → (o ≡ controller → value v ≼ value p) → Allows o p w → MeantHold a value choice step o v → value v ≼ value w
       go controller keeps e holding = rw e (keeps refl)
       go environment keeps e holding = holding w m
 
   -- the row's choice keeps the values
   pub choice-keeps : (v : ℕ) → CertifiedAt a value choice step v → ownerAt a v ≡ controller → value v ≼ value (targetOf (choice v))
-  choice-keeps v at = go (ownerAt a v) (at .legal) (at .holding)
+  choice-keeps v at = go (ownerAt a v) (at .legal) (at .holding .0)
     where
-      go : (o : Owner) → LegalAs o a v (choice v) → HoldingAs a value choice step o v → o ≡ controller → value v ≼ value (targetOf (choice v))
-      go controller (w, e, m) holding own = holding .0 _ (target-is-named (choice v) w e)
+      go : (o : Owner) → LegalAs o a v (choice v) → MeantHold a value choice step o v → o ≡ controller → value v ≼ value (targetOf (choice v))
+      go controller (w, e, m) holding own = holding _ (target-is-named (choice v) w e)
       go environment dash holding own = absurd (environment-is-not-controller own)
 
   -- the same bound across the row's own choice (at L, any meant move)
@@ -58,15 +58,10 @@ module _ (a : Arena) (value choice step : ℕ → Value) where
   pub disturbance-holds :
       (v w c : ℕ) (x : Value)
       → CertifiedAt a value choice step v
-      → ownerAt a v ≡ controller
       → Disturbance a v w
       → x ≼ value v ⊕ c
       → x ≼ value w ⊕ (c + disturbanceCost a v w)
-  disturbance-holds v w c x at own d h = ⊕≼trans _ _ _ c (disturbanceCost a v w) h (go (ownerAt a v) own (at .holding))
-    where
-      go : (o : Owner) → o ≡ controller → HoldingAs a value choice step o v → value v ≼ value w ⊕ disturbanceCost a v w
-      go controller own holding = holding .1 w d
-      go environment own holding = absurd (environment-is-not-controller own)
+  disturbance-holds v w c x at d h = ⊕≼trans _ _ _ c (disturbanceCost a v w) h (at .holding .1 w d)
 
 module _ (a : Arena) (wf : WellFormed a) (value choice step : ℕ → Value) (certificate : Certificate a value choice step) where
   module _ (σ : Controller a) (v : ℕ) (keeps : Keeps a value σ v) where
@@ -81,8 +76,7 @@ module _ (a : Arena) (wf : WellFormed a) (value choice step : ℕ → Value) (ce
     plays-hold (meant t w) (p, m, allowed) =
         meant-move-holds a value choice step (last v t) _ w (cost a v t) (value v) (here t p) (keeps t p) m allowed (plays-hold t p)
     plays-hold (disturbed t w) (p, d) =
-        let own = disturbed-is-controller a wf (last v t) w d in
-        disturbance-holds a value choice step (last v t) w (cost a v t) (value v) (here t p) own d (plays-hold t p)
+        disturbance-holds a value choice step (last v t) w (cost a v t) (value v) (here t p) d (plays-hold t p)
 
     -- where a play stands at an unsafe position, it has cost that value at least
     standing-unsafe-costs : (t : Trail) → Play a σ v t → T (unsafe a (last v t)) → value v ≼ fin (cost a v t)

@@ -6,7 +6,7 @@ use mathlib.Core.Bool.{Bool, true, false, cond}
 use lib.Dec.{T}
 use Rattle.game.specs.Value.{Value, fin, ever}
 use Rattle.game.specs.Arena.{Arena, controller, size, ownerAt, unsafe, Meant, Disturbance}
-use Rattle.game.specs.Play.{Trail, still, meant, disturbed, last, cost, Controller}
+use Rattle.game.specs.Play.{Trail, still, meant, disturbed, cost, Controller}
 
 -- "b_j = 0 implies (v_{j-1}, v_j) ∈ E, and b_j = 1 implies (v_{j-1}, v_j) ∈ D"
 abbrev pub Edge : Bool → Arena → ℕ → ℕ → Type 0

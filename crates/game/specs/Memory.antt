@@ -33,7 +33,7 @@ unfoldable pub pair : Arena
 pair =
     record {
       positions = record { owner = controller; mark = 0 } ∷ record { owner = controller; mark = 0 } ∷ [];
-      moves = meantMove 0 1 ∷ disturbanceMove 0 1 ∷ meantMove 1 0 ∷ meantMove 1 1 ∷ [];
+      moves = meantMove 0 1 ∷ disturbanceMove 1 0 1 ∷ meantMove 1 0 ∷ meantMove 1 1 ∷ [];
     }
 
 -- what holds of each move in a row of moves
@@ -76,7 +76,7 @@ pair-is-well-formed =
       from-position = of-each (λ m. m .from < 2) (pair .moves) (lit< tt, (lit< tt, (lit< tt, (lit< tt, tt))));
       to-position = of-each (λ m. m .to < 2) (pair .moves) (lit< tt, (lit< tt, (lit< tt, (lit< tt, tt))));
       disturbed =
-          λ v w. of-each (λ m. T (mayBeDisturbed (ownerAt pair (m .from)))) (pair .moves) (tt, (tt, (tt, (tt, tt)))) (disturbanceMove v w);
+          λ v w d. of-each (λ m. T (mayBeDisturbed (ownerAt pair (m .from)))) (pair .moves) (tt, (tt, (tt, (tt, tt)))) (disturbanceMove (suc (d .0)) v w) (d .1);
       meant = λ v inside. (pickAt false v, pick-at-is-meant false v inside);
     }
 
@@ -97,6 +97,6 @@ unfolding pair Play last remembering pickAt wasDisturbed
 pick-depends-on-disturbance = (
   remembering,
   (lit< tt, List·Memᴰ·head refl, refl),
-  (lit< tt, List·Memᴰ·tail (List·Memᴰ·head refl)),
+  (lit< tt, (0, List·Memᴰ·tail (List·Memᴰ·head refl))),
   λ (same : _≡_ {A = ℕ} 1 0). omega arith,
 )

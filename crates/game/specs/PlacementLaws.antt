@@ -4,7 +4,7 @@ use mathlib.Core.Path.{_≡_, refl, sym, ap, subst}
 use mathlib.Core.Logic.{_⊎_, inl, inr}
 use lib.Dec.{T}
 use Rattle.game.specs.Value.{fin, ever}
-use Rattle.game.specs.Table.{Placement, unplaced, placed, isPlaced, valueIn, stepIn}
+use Rattle.game.specs.Table.{Placement, unplaced, placed, isPlaced, placedValue, placedStep}
 use Rattle.game.specs.ValueLaws.{fin-injective, fin-is-not-ever}
 
 pub is-placed : {x : Placement} {k s : ℕ} → x ≡ placed k s → T (isPlaced x)
@@ -27,38 +27,38 @@ placed-or-not unplaced = inr refl
 placed-or-not (placed k s) = inl tt
 
 -- its value and step, both ways
-pub value-of-placed : {x : Placement} {k s : ℕ} → x ≡ placed k s → valueIn x ≡ fin k
-unfolding valueIn
-value-of-placed e = ap valueIn e
+pub value-of-placed : {x : Placement} {k s : ℕ} → x ≡ placed k s → placedValue x ≡ fin k
+unfolding placedValue
+value-of-placed e = ap placedValue e
 
-pub step-of-placed : {x : Placement} {k s : ℕ} → x ≡ placed k s → stepIn x ≡ fin s
-unfolding stepIn
-step-of-placed e = ap stepIn e
+pub step-of-placed : {x : Placement} {k s : ℕ} → x ≡ placed k s → placedStep x ≡ fin s
+unfolding placedStep
+step-of-placed e = ap placedStep e
 
-pub value-of-unplaced : {x : Placement} → x ≡ unplaced → valueIn x ≡ ever
-unfolding valueIn
-value-of-unplaced e = ap valueIn e
+pub value-of-unplaced : {x : Placement} → x ≡ unplaced → placedValue x ≡ ever
+unfolding placedValue
+value-of-unplaced e = ap placedValue e
 
-pub step-of-unplaced : {x : Placement} → x ≡ unplaced → stepIn x ≡ ever
-unfolding stepIn
-step-of-unplaced e = ap stepIn e
+pub step-of-unplaced : {x : Placement} → x ≡ unplaced → placedStep x ≡ ever
+unfolding placedStep
+step-of-unplaced e = ap placedStep e
 
-pub placed-of-value : (x : Placement) (k : ℕ) → valueIn x ≡ fin k → (s : ℕ) × (x ≡ placed k s)
-unfolding valueIn
+pub placed-of-value : (x : Placement) (k : ℕ) → placedValue x ≡ fin k → (s : ℕ) × (x ≡ placed k s)
+unfolding placedValue
 placed-of-value unplaced k e = absurd (fin-is-not-ever k (sym e))
 placed-of-value (placed i s) k e = (s, ap (λ (j : ℕ). placed j s) (fin-injective i k e))
 
-pub placed-of-step : (x : Placement) (s : ℕ) → stepIn x ≡ fin s → (k : ℕ) × (x ≡ placed k s)
-unfolding stepIn
+pub placed-of-step : (x : Placement) (s : ℕ) → placedStep x ≡ fin s → (k : ℕ) × (x ≡ placed k s)
+unfolding placedStep
 placed-of-step unplaced s e = absurd (fin-is-not-ever s (sym e))
 placed-of-step (placed k i) s e = (k, ap (placed k) (fin-injective i s e))
 
-pub unplaced-of-value : (x : Placement) → valueIn x ≡ ever → x ≡ unplaced
-unfolding valueIn
+pub unplaced-of-value : (x : Placement) → placedValue x ≡ ever → x ≡ unplaced
+unfolding placedValue
 unplaced-of-value unplaced e = refl
 unplaced-of-value (placed k s) e = absurd (fin-is-not-ever k e)
 
-pub unplaced-of-step : (x : Placement) → stepIn x ≡ ever → x ≡ unplaced
-unfolding stepIn
+pub unplaced-of-step : (x : Placement) → placedStep x ≡ ever → x ≡ unplaced
+unfolding placedStep
 unplaced-of-step unplaced e = refl
 unplaced-of-step (placed k s) e = absurd (fin-is-not-ever s e)

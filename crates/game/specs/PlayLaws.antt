@@ -1,14 +1,15 @@
 -- Laws of plays: a play stays inside the arena, one that stands at an unsafe position is unsafe, a disturbance costs
 -- something, and only a controller's position is disturbed.
-use Prim.Native.Nat.{ℕ, _<_}
+use Prim.Native.Nat.{ℕ, suc, _≤_, _<_}
 use native.Mathlib.Omega.{arith}
 use mathlib.Core.Path.{_≡_, refl, sym}
 use mathlib.Core.Logic.{_⊎_, inl, inr}
 use mathlib.Core.Bool.{Bool, true, false}
+use mathlib.Core.List.{List·Memᴰ}
 use lib.Dec.{T}
 use Rattle.game.specs.Value.{Value, fin, ever}
 use Rattle.game.specs.ValueLaws.{fin-is-not-ever}
-use Rattle.game.specs.Arena.{Arena, Owner, controller, environment, size, ownerAt, unsafe, meantMove, disturbanceMove, Meant, Disturbance, mayBeDisturbed, WellFormed}
+use Rattle.game.specs.Arena.{Arena, Move, Owner, controller, environment, size, ownerAt, unsafe, meantMove, disturbanceMove, Meant, Disturbance, mayBeDisturbed, WellFormed}
 use Rattle.game.specs.Play.{Trail, still, meant, disturbed, last, disturbanceCost, Controller, Play, Unsafe, Legal, positional, targetOf}
 
 -- "a disturbance, which counts one"
@@ -18,6 +19,10 @@ disturbance-costs-one a v w = refl
 
 pub disturbance-costs : (a : Arena) (v w : ℕ) → 0 < disturbanceCost a v w
 disturbance-costs a v w = rw (disturbance-costs-one a v w) (omega arith)
+
+-- and one digit at most
+pub disturbance-cost-small : (a : Arena) (v w : ℕ) → disturbanceCost a v w ≤ 9
+disturbance-cost-small a v w = rw (disturbance-costs-one a v w) (omega arith)
 
 -- the two owners
 pub environment-is-not-controller : environment ≡ controller → ⊥
@@ -50,7 +55,14 @@ module _ (a : Arena) (wf : WellFormed a) where
   meant-inside v w m = wf .to-position (meantMove v w) m
 
   pub disturbance-inside : (v w : ℕ) → Disturbance a v w → w < size a
-  disturbance-inside v w d = wf .to-position (disturbanceMove v w) d
+  disturbance-inside v w d = wf .to-position (disturbanceMove (suc (d .0)) v w) (d .1)
+
+  pub disturbance-leaves : (v w : ℕ) → Disturbance a v w → v < size a
+  disturbance-leaves v w d = wf .from-position (disturbanceMove (suc (d .0)) v w) (d .1)
+
+  -- what a disturbance counts is its move's cost
+  pub disturbance-counts : (m : Move) → List·Memᴰ m (a .moves) → (m .cost ≡ 0 → ⊥) → disturbanceCost a (m .from) (m .to) ≡ m .cost
+  disturbance-counts m mem costs = rw (disturbance-costs-one a (m .from) (m .to)) (omega (arith, wf .kind m mem))
 
   pub disturbed-is-controller : (v w : ℕ) → Disturbance a v w → ownerAt a v ≡ controller
   disturbed-is-controller v w d = may-be-disturbed (ownerAt a v) (wf .disturbed v w d)

@@ -1,11 +1,11 @@
 -- in the arena restricted to a legal row of choices, every controller has exactly the plays that the row's controller has
 -- in the whole arena, safe or unsafe alike and at the same cost. So a value there is that controller's worth here.
-use Prim.Native.Nat.{ℕ}
+use Prim.Native.Nat.{ℕ, suc}
 use mathlib.Core.Path.{_≡_, refl, sym, ap, subst, _∙_}
 use mathlib.Core.Logic.{_⊎_, inl, inr, ⊎-map, _↔_}
 use mathlib.Core.Bool.{Bool, true, false, cond, _||_, not}
 use mathlib.Core.List.{List, [], _∷_, List·Memᴰ, List·Memᴰ·head, List·Memᴰ·tail, List·Memᴰ·not-nil, List·Memᴰ·cases-cons}
-use lib.Dec.{T}
+use lib.Dec.{T, eqb·suc-zero}
 use Rattle.game.specs.Value.{Value, fin, ever, eqV}
 use Rattle.game.specs.Arena.{Arena, Move, Owner, controller, environment, ownerAt, meantMove, disturbanceMove, Meant, Disturbance, WellFormed}
 use Rattle.game.specs.Play.{Trail, still, meant, disturbed, last, cost, disturbanceCost, Controller, Allows, Play, Unsafe, LegalAs, Legal, positional, targetOf}
@@ -72,8 +72,8 @@ module _ (a : Arena) (choice : ℕ → Value) where
   pub restricted-disturbance : (v w : ℕ) → Disturbance (restricted a choice) v w ↔ Disturbance a v w
   unfolding restricted stays
   restricted-disturbance v w = (
-    λ i. kept (stays a choice) (a .moves) (disturbanceMove v w) i .0,
-    λ i. passed (stays a choice) (a .moves) (disturbanceMove v w) i tt,
+    λ (c, i). (c, kept (stays a choice) (a .moves) (disturbanceMove (suc c) v w) i .0),
+    λ (c, i). (c, passed (stays a choice) (a .moves) (disturbanceMove (suc c) v w) i (rw (eqb·suc-zero c) tt)),
   )
 
   -- no move is added

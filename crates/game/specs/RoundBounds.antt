@@ -8,13 +8,13 @@ use Rattle.game.specs.Value.{fin}
 use Rattle.game.specs.Arena.{Arena, Owner, controller, environment, WellFormed, size, ownerAt}
 use Rattle.game.specs.Rounds.{JoinsAs}
 use Rattle.game.specs.Table.{placed, Table, placementAt, tableAfter, tableBefore, table, roundValue, roundStep}
-use Rattle.game.specs.Summary.{highest}
+use Rattle.game.specs.FirstLine.{highest}
 use Rattle.game.specs.PlacementLaws.{is-not-placed, placed-of-value, placed-of-step}
 use Rattle.game.specs.TableLaws.{freeCount, free-count-bound, none-free}
 use Rattle.game.specs.RoundTables.{RoundTakes, before-all, before-length, before-from}
 use Rattle.game.specs.Stable.{Settled, SettledOrFewer, settles, unchanged-or-fewer, before-settled, table-has-the-taken}
 use Rattle.game.specs.TableIsRounds.{PlacedIn, ready-joins}
-use Rattle.game.specs.SummaryLaws.{highest-occurs}
+use Rattle.game.specs.FirstLineLaws.{highest-occurs}
 
 module _ (a : Arena) (wf : WellFormed a) where
   -- no position joins before one is placed, since "Each position has a meant move"

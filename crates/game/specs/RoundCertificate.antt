@@ -11,7 +11,7 @@ use Rattle.game.specs.PlacementLaws.{value-of-placed, value-of-unplaced,
 use Rattle.game.specs.RoundTables.{before-all, before-length}
 use Rattle.game.specs.Stable.{table-has-the-taken}
 use Rattle.game.specs.BestLaws.{best-is-the-choice, best-is-legal}
-use Rattle.game.specs.RoundHolding.{holds-as, no-joining-below}
+use Rattle.game.specs.RoundHolding.{disturbance-held, holds-as, no-joining-below}
 use Rattle.game.specs.RoundRuin.{ruined}
 
 module _ (a : Arena) (wf : WellFormed a) where
@@ -29,6 +29,6 @@ module _ (a : Arena) (wf : WellFormed a) where
         unsafe-zero = unsafe-has-zero v h;
         dash = (λ e. value-of-unplaced (unplaced-of-step x e), λ e. step-of-unplaced (unplaced-of-value x e));
         legal = best-is-legal a (roundValue a) wf v h;
-        holding = holds-as a wf (ownerAt a v) v (no-joining-below a wf v h) (best-is-the-choice a (roundValue a) wf v h);
+        holding = (holds-as a wf (ownerAt a v) v (no-joining-below a wf v h) (best-is-the-choice a (roundValue a) wf v h), disturbance-held a wf v);
         ruin = λ safe k e. let p = placed-of-value x k e in ruined a wf v k (p .0) safe (p .1) (table-has-the-taken a k (p .0) v .1 (p .1));
       }

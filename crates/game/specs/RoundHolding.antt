@@ -7,15 +7,15 @@ use mathlib.Core.Logic.{_⊎_, inl, inr, _↔_}
 use lib.ListN.{length}
 use lib.Dec.{T}
 use Rattle.game.specs.Value.{Value, fin, ever, _≼_, _≺_, _⊕_}
-use Rattle.game.specs.Arena.{Arena, Owner, controller, environment, WellFormed, size, ownerAt, Meant, Disturbance, disturbanceMove}
+use Rattle.game.specs.Arena.{Arena, Owner, controller, environment, WellFormed, size, ownerAt, Meant, Disturbance}
 use Rattle.game.specs.Play.{disturbanceCost}
 use Rattle.game.specs.Rounds.{Joins, JoinsAs}
 use Rattle.game.specs.Choice.{IsChoiceAs}
-use Rattle.game.specs.Certificate.{HoldingAs}
+use Rattle.game.specs.Certificate.{MeantHold}
 use Rattle.game.specs.Table.{unplaced, Table, placementAt, hasValue, begins, tableBefore, table, roundValue, roundStep}
 use Rattle.game.specs.Best.{bestAt}
 use Rattle.game.specs.ValueLaws.{fin-injective, fin≺, ⊕cancel, smaller, ≺fin, fin≺ever, ≼ever, ≼-or-≺, ≺irrefl, ≼≺trans, ⊕ever, smaller-is-finite}
-use Rattle.game.specs.PlayLaws.{disturbance-costs-one}
+use Rattle.game.specs.PlayLaws.{disturbance-costs-one, disturbance-leaves}
 use Rattle.game.specs.MoveTests.{some-disturbance}
 use Rattle.game.specs.PlacementLaws.{is-placed, placed-or-not, placed-where, value-of-placed, placed-of-value}
 use Rattle.game.specs.TableLaws.{extends-placed}
@@ -102,7 +102,7 @@ module _ (a : Arena) (wf : WellFormed a) where
   no-joining-below v h j = ≺irrefl (roundValue a v) (below-is-closed (roundValue a v) v (h, j))
 
   -- a disturbance into value j has been taken by round (j + 1, 0) at the latest
-  disturbance-held : (v w : ℕ) → Disturbance a v w → roundValue a v ≼ roundValue a w ⊕ disturbanceCost a v w
+  pub disturbance-held : (v w : ℕ) → Disturbance a v w → roundValue a v ≼ roundValue a w ⊕ disturbanceCost a v w
   disturbance-held v w d = rw (disturbance-costs-one a v w) (look (roundValue a w) refl)
     where
       taken : (j : ℕ) → roundValue a w ≡ fin j → PlacedIn (tableBefore a (suc j)) v ⊎ (placementAt (tableBefore a (suc j)) v ≡ unplaced)
@@ -111,7 +111,7 @@ module _ (a : Arena) (wf : WellFormed a) where
       taken j e (inr free) =
           extends-placed (after-before a (suc j) 0) v
           (is-placed (taken-is-placed a (tableBefore a (suc j)) (suc j) 0 v
-          (record { inside = rw (before-length a (suc j)) (wf .from-position (disturbanceMove v w) d); free = free; passes = begins-by-disturbance a v w j d e })))
+          (record { inside = rw (before-length a (suc j)) (disturbance-leaves a wf v w d); free = free; passes = begins-by-disturbance a v w j d e })))
 
       look : (x : Value) → roundValue a w ≡ x → roundValue a v ≼ x ⊕ 1
       look ever e = rw (⊕ever 1) (≼ever (roundValue a v))
@@ -120,10 +120,10 @@ module _ (a : Arena) (wf : WellFormed a) where
           ⊕cancel (roundValue a v) (fin j ⊕ 1) 1 (subst (λ (x : Value). roundValue a v ⊕ 1 ≼ x) (two j) (smaller (roundValue a v) (suc (suc j)) .1 below))
 
   abbrev pub Held : Owner → ℕ → Type 0
-  Held o v = HoldingAs a (roundValue a) (bestAt a (roundValue a)) (roundStep a) o v
+  Held o v = MeantHold a (roundValue a) (bestAt a (roundValue a)) (roundStep a) o v
 
   pub holds-as : (o : Owner) (v : ℕ) → (JoinsAs o a (λ w. roundValue a w ≺ roundValue a v) v → ⊥) → IsChoiceAs o a (roundValue a) v (bestAt a (roundValue a) v) → Held o v
-  holds-as controller v none c = (λ w e. go w e (≼-or-≺ (roundValue a v) (roundValue a w)), λ w d. disturbance-held v w d)
+  holds-as controller v none c = λ w e. go w e (≼-or-≺ (roundValue a v) (roundValue a w))
     where
       go : (w : ℕ) → bestAt a (roundValue a) v ≡ fin w → (roundValue a v ≼ roundValue a w) ⊎ (roundValue a w ≺ roundValue a v) → roundValue a v ≼ roundValue a w
       go w e (inl h) = h

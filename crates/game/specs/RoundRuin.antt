@@ -9,11 +9,11 @@ use Rattle.game.specs.Value.{fin, _≼_, _≺_, _⊕_}
 use Rattle.game.specs.Arena.{Arena, Owner, controller, environment, WellFormed, ownerAt, unsafe}
 use Rattle.game.specs.Play.{disturbanceCost}
 use Rattle.game.specs.Rounds.{JoinsAs}
-use Rattle.game.specs.Certificate.{Earlier, RuinAs}
+use Rattle.game.specs.Certificate.{Earlier, MeantRuin, DisturbanceRuins}
 use Rattle.game.specs.Table.{placed, placementAt, begins, tableAfter, tableBefore, table, roundValue, roundStep}
 use Rattle.game.specs.Best.{bestAt}
-use Rattle.game.specs.ValueLaws.{fin≺, smaller, ≡→≼}
-use Rattle.game.specs.PlayLaws.{disturbance-costs-one, disturbed-is-controller}
+use Rattle.game.specs.ValueLaws.{fin≺, ≡→≼}
+use Rattle.game.specs.PlayLaws.{disturbance-costs-one}
 use Rattle.game.specs.PlacementLaws.{placed-where, value-of-placed, step-of-placed}
 use Rattle.game.specs.RoundTables.{RoundTakes, TakenAt, after-from, before-from}
 use Rattle.game.specs.Stable.{after-before, before-table}
@@ -43,11 +43,11 @@ module _ (a : Arena) (wf : WellFormed a) where
           inr (value-of-placed now ∙ ap fin (t .this-value) ∙ sym (value-of-placed e), subst₂ _≺_ (sym (step-of-placed now)) (sym (step-of-placed e)) (fin≺ q (suc r) (omega arith)))
 
   abbrev pub Ruined : Owner → ℕ → Type 0
-  Ruined o v = RuinAs a (roundValue a) (bestAt a (roundValue a)) (roundStep a) o v
+  Ruined o v = DisturbanceRuins a (roundValue a) (bestAt a (roundValue a)) (roundStep a) v ⊎ MeantRuin a (roundValue a) (bestAt a (roundValue a)) (roundStep a) o v
 
   ruined-by-joining : (o : Owner) (v : ℕ) → JoinsAs o a (λ w. Before w v) v → Ruined o v
   ruined-by-joining controller v all = inr all
-  ruined-by-joining environment v some = some
+  ruined-by-joining environment v some = inr some
 
   disturbance-is-smaller : (v w j : ℕ) → roundValue a w ≡ fin j → roundValue a v ≡ fin (suc j) → roundValue a w ⊕ disturbanceCost a v w ≼ roundValue a v
   unfolding _⊕_
@@ -59,7 +59,7 @@ module _ (a : Arena) (wf : WellFormed a) where
   ruined v zero zero safe e t = absurd (subst T safe (t .passes))
   ruined v (suc j) zero safe e t =
       let r = disturbance-of-begins a v j (t .passes) in
-      subst (λ (o : Owner). Ruined o v) (sym (disturbed-is-controller a wf v (r .0) (r .1))) (inl (r .0, r .1, disturbance-is-smaller v (r .0) j (r .2) (value-of-placed e)))
+      inl (r .0, r .1, disturbance-is-smaller v (r .0) j (r .2) (value-of-placed e))
   ruined v k (suc r) safe e t =
       ruined-by-joining (ownerAt a v) v
       (joins-map-as (ownerAt a v) a (PlacedIn (tableAfter a (tableBefore a k) k r)) (λ w. Before w v)

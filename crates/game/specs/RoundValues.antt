@@ -1,7 +1,7 @@
 -- What the rounds' certificate gives: the rounds' values are right, their choices' controller has them as its worths,
 -- and with right values and any optimal positional controller the rounds' steps make a certificate too.
 use Prim.Native.Nat.{ℕ, _<_}
-use mathlib.Core.Path.{_≡_, refl, sym}
+use mathlib.Core.Path.{_≡_, refl}
 use Rattle.game.specs.Value.{Value}
 use Rattle.game.specs.Arena.{Arena, WellFormed, size}
 use Rattle.game.specs.Play.{Legal, positional}
@@ -11,7 +11,6 @@ use Rattle.game.specs.Table.{roundValue, roundStep}
 use Rattle.game.specs.Best.{bestAt}
 use Rattle.game.specs.Certified.{certificate-gives-values, certificate-gives-worths}
 use Rattle.game.specs.Unique.{value-is-unique}
-use Rattle.game.specs.Carry.{SameRow}
 use Rattle.game.specs.Optimal.{RightValues, WorthsAre, optimal-choices-have-certificate}
 use Rattle.game.specs.BestLaws.{best-is-legal}
 use Rattle.game.specs.RoundCertificate.{rounds-have-a-certificate}

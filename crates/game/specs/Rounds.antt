@@ -1,5 +1,6 @@
 -- The rounds that fix the pair (value, step) of a position, exactly as document 01 gives them ("Steps"), for all k and s.
 use Prim.Native.Nat.{ℕ, zero, suc, _<_}
+use mathlib.Core.Path.{_≡_}
 use mathlib.Core.Logic.{_⊎_}
 use lib.Dec.{T}
 use Rattle.game.specs.Arena.{Arena, Owner, controller, environment, size, ownerAt, unsafe, Meant, Disturbance}
@@ -38,7 +39,7 @@ level a zero = record { before = λ v. ⊥; starting = λ v. (v < size a) × T (
 level a (suc k) =
     record {
       before = λ v. (s : ℕ) × PlacedBy a (level a k) s v;
-      starting = λ v. (w : ℕ) × Disturbance a v w × ((s : ℕ) × JoinsIn a (level a k) s w);
+      starting = λ v. (ownerAt a v ≡ controller) × ((w : ℕ) × Disturbance a v w × ((s : ℕ) × JoinsIn a (level a k) s w));
     }
 
 -- round (k, s) has v

@@ -6,14 +6,14 @@ use Prim.Native.Nat.{ℕ, zero, suc, _<_}
 use native.Mathlib.Omega.{arith}
 use native.Mathlib.Nat.{zero-add}
 use mathlib.Core.Path.{_≡_, refl, sym, subst, _∙_}
-use mathlib.Core.Logic.{_⊎_, inl, inr}
+use mathlib.Core.Logic.{_⊎_, inl, inr, ⊎-elim}
 use mathlib.Core.Bool.{false}
 use lib.Dec.{T}
 use Rattle.game.specs.Value.{Value, fin, ever, _≼_, _≺_, _⊕_}
 use Rattle.game.specs.Arena.{Arena, Owner, controller, environment, size, ownerAt, unsafe, Meant, Disturbance, WellFormed}
 use Rattle.game.specs.Play.{Trail, still, meant, disturbed, last, cost, disturbanceCost, Controller, Allows, Play}
 use Rattle.game.specs.Worth.{AtMost}
-use Rattle.game.specs.Certificate.{CertifiedAt, Certificate, Earlier, RuinAs}
+use Rattle.game.specs.Certificate.{CertifiedAt, Certificate, Earlier, MeantRuin}
 use Rattle.game.specs.ValueLaws.{≼refl, ≡→≼, ≼trans, ≺≼trans, ≺→≼, ⊕zero, ⊕mono, ≼⊕trans, ⊕fin, below-is-finite, fin-is-not-ever, fin≺, ≺-suc, ≺-below-suc, ⊕≺, ⊀zero}
 use Rattle.game.specs.PlayLaws.{by-test, disturbance-costs, stands-unsafe, stays-inside}
 use Rattle.game.specs.Bounds.{at-most-from-play, at-most-ever}
@@ -105,9 +105,8 @@ module _
         by-disturbance w d less =
             values (disturbed t w) (then-disturbed t f w d less) (⊕≺ _ _ k (disturbance-costs a (last v t) w) (≼trans _ _ _ less small))
 
-        by-owner-of : (o : Owner) → ownerAt a (last v t) ≡ o → RuinAs a value choice step o (last v t) → Ruin a value σ v
-        by-owner-of controller own (inl (w, d, less)) = by-disturbance w d less
-        by-owner-of controller own (inr all) =
+        by-owner-of : (o : Owner) → ownerAt a (last v t) ≡ o → MeantRuin a value choice step o (last v t) → Ruin a value σ v
+        by-owner-of controller own all =
             let w = σ .pick v t in
             let m = σ .legal v t own in
             by-earlier w m (subst (λ (o : Owner). Allows o w w) (sym own) refl) (all w m)
@@ -117,7 +116,7 @@ module _
         one-move (inl bad) = record { trail = t; falling = f; stands = bad }
         one-move (inr safe) =
             let (j, e, le) = below-is-finite (value (last v t)) k small in
-            by-owner-of (ownerAt a (last v t)) refl (here t f .ruin safe j e)
+            ⊎-elim (λ r. by-disturbance (r .0) (r .1) (r .2)) (by-owner-of (ownerAt a (last v t)) refl) (here t f .ruin safe j e)
 
     by-steps : (k : ℕ) → BelowValue k → (s : ℕ) → BelowStep k s
     by-steps k values zero t f small early = absurd (⊀zero _ early)

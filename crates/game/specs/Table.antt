@@ -1,7 +1,7 @@
 -- The rounds as a computation: a table of placements, one for each position, filled round by round. It is bounded, n
 -- steps for each of n values; that this loses nothing is proved of it.
 use Prim.Native.Nat.{ℕ, zero, suc, _+_}
-use mathlib.Core.Bool.{Bool, true, false, cond, _&&_, not}
+use mathlib.Core.Bool.{Bool, Bool·beq, true, false, cond, _&&_, not}
 use mathlib.Core.List.{List, [], _∷_}
 use lib.ListN.{getD, replicate}
 use lib.Dec.{eqb}
@@ -41,7 +41,11 @@ unfoldable pub meantFrom : ℕ → Move → Bool
 meantFrom v m = eqb (m .cost) 0 && eqb (m .from) v
 
 unfoldable pub disturbanceFrom : ℕ → Move → Bool
-disturbanceFrom v m = eqb (m .cost) 1 && eqb (m .from) v
+disturbanceFrom v m = not (eqb (m .cost) 0) && eqb (m .from) v
+
+-- a move of this cost is of the kind that is sought: a meant move or a disturbance
+abbrev pub ofKind : (meant : Bool) → ℕ → Bool
+ofKind meant cost = Bool·beq (eqb cost 0) meant
 
 -- "L positions with some meant target placed", "O positions with all meant targets placed"
 unfoldable pub readyAs : Owner → Arena → Table → ℕ → Bool
@@ -76,17 +80,17 @@ unfoldable pub table : Arena → Table
 table a = tableBefore a (size a)
 
 -- the value and the step of a placement
-unfoldable pub valueIn : Placement → Value
-valueIn unplaced = ever
-valueIn (placed k s) = fin k
+unfoldable pub placedValue : Placement → Value
+placedValue unplaced = ever
+placedValue (placed k s) = fin k
 
-unfoldable pub stepIn : Placement → Value
-stepIn unplaced = ever
-stepIn (placed k s) = fin s
+unfoldable pub placedStep : Placement → Value
+placedStep unplaced = ever
+placedStep (placed k s) = fin s
 
 -- the rows of values and steps that the rounds give
 unfoldable pub roundValue : Arena → ℕ → Value
-roundValue a v = valueIn (placementAt (table a) v)
+roundValue a v = placedValue (placementAt (table a) v)
 
 unfoldable pub roundStep : Arena → ℕ → Value
-roundStep a v = stepIn (placementAt (table a) v)
+roundStep a v = placedStep (placementAt (table a) v)

@@ -7,11 +7,12 @@ use mathlib.Core.Bool.{Bool, not, _&&_}
 use lib.ListN.{length}
 use lib.Dec.{T, eqb→eq, eqb-refl, not-T, T-not}
 use Rattle.game.specs.Value.{fin, ever}
-use Rattle.game.specs.Arena.{Arena, Owner, controller, environment, WellFormed, size, ownerAt, Meant, Disturbance, disturbanceMove}
+use Rattle.game.specs.Arena.{Arena, Owner, controller, environment, WellFormed, size, ownerAt, Meant, Disturbance}
 use Rattle.game.specs.Rounds.{Positions, JoinsAs, Joins, PlacedBy, JoinsIn, level, Round, NeverPlaced}
 use Rattle.game.specs.Table.{Placement, unplaced, placed, Table, placementAt, isPlaced, hasValue, someMove, meantFrom, place, readyAs, ready, begins, tableAfter, tableBefore, table, roundValue, roundStep}
 use Rattle.game.specs.MoveTests.{passes-or-fails, some-meant, some-disturbance}
 use Rattle.game.specs.ValueLaws.{fin-injective}
+use Rattle.game.specs.PlayLaws.{disturbance-leaves, disturbed-is-controller}
 use Rattle.game.specs.PlacementLaws.{is-placed, is-not-placed, placed-or-not, value-of-placed, step-of-placed, value-of-unplaced, step-of-unplaced, placed-of-value, unplaced-of-value}
 use Rattle.game.specs.TableLaws.{Takes, extends-placed, place-extends, place-takes, place-leaves}
 use Rattle.game.specs.RoundTables.{RoundTakes, after-length, before-length, before-all, before-from, taken-is-placed}
@@ -154,17 +155,17 @@ module _ (a : Arena) (wf : WellFormed a) where
       into : ℕ → Bool
       into w = hasValue k (placementAt t w)
 
-      begin : (v : ℕ) → (w : ℕ) × Disturbance a v w × ((s : ℕ) × JoinsIn a (level a k) s w) → (v < length t) × T (begins a (suc k) t v)
-      begin v d =
+      begin : (v : ℕ) → (ownerAt a v ≡ controller) × ((w : ℕ) × Disturbance a v w × ((s : ℕ) × JoinsIn a (level a k) s w)) → (v < length t) × T (begins a (suc k) t v)
+      begin v (own, d) =
           let r = d .2 in
           let h = value-taken a k (d .0) .1 (r .0, joins-in a k is (r .0) (d .0) .0 (r .1)) in
-          (rw (before-length a (suc k)) (wf .from-position (disturbanceMove v (d .0)) (d .1)), some-disturbance a v into .1 (d .0, d .1, h))
+          (rw (before-length a (suc k)) (disturbance-leaves a wf v (d .0) (d .1)), some-disturbance a v into .1 (d .0, d .1, h))
 
-      begun : (v : ℕ) → (v < length t) × T (begins a (suc k) t v) → (w : ℕ) × Disturbance a v w × ((s : ℕ) × JoinsIn a (level a k) s w)
+      begun : (v : ℕ) → (v < length t) × T (begins a (suc k) t v) → (ownerAt a v ≡ controller) × ((w : ℕ) × Disturbance a v w × ((s : ℕ) × JoinsIn a (level a k) s w))
       begun v h =
           let d = some-disturbance a v into .0 (h .1) in
           let r = value-taken a k (d .0) .0 (d .2) in
-          (d .0, d .1, (r .0, joins-in a k is (r .0) (d .0) .1 (r .1)))
+          (disturbed-is-controller a wf v (d .0) (d .1), (d .0, d .1, (r .0, joins-in a k is (r .0) (d .0) .1 (r .1))))
 
   level-is : (k : ℕ) → LevelIs a k
   level-is zero = level-zero a

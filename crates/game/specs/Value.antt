@@ -1,8 +1,7 @@
 -- Values: a number of disturbances, or "ever", which is above each number (document 01, "Plays, worth, value").
 -- The same type serves the other two columns of a plate, where `ever` is the dash: "`-` is above each step".
 use Prim.Native.Nat.{ℕ, _+_, _≤_, _<_}
-use mathlib.Core.Path.{_≡_}
-use mathlib.Core.Bool.{Bool, true, false, cond}
+use mathlib.Core.Bool.{Bool, true, false}
 use lib.Dec.{leb, ltb, eqb}
 
 pub data Value : Type 0 where
@@ -45,11 +44,3 @@ eqV (fin j) (fin k) = eqb j k
 eqV (fin j) ever = false
 eqV ever (fin k) = false
 eqV ever ever = true
-
--- a value as a 16-bit number, "In rows of 16-bit numbers all of these are 65,535", and back: the one place where 65,535 becomes `ever`
-unfoldable pub numberOf : Value → ℕ
-numberOf (fin k) = k
-numberOf ever = 65535
-
-unfoldable pub valueOf : ℕ → Value
-valueOf x = cond (eqb x 65535) ever (fin x)

@@ -6,8 +6,7 @@ use native.Mathlib.Omega.{arith}
 use mathlib.Core.Path.{_≡_, refl, sym, ap, subst}
 use mathlib.Core.Logic.{_⊎_, inl, inr, _↔_}
 use lib.Dec.{T, eqb, leb→le, le→leb, ltb→lt, lt→ltb, eqb→eq, eqb-refl}
-use borrow.Author.Tests.{eq-eqb, ne-eqb}
-use Rattle.game.specs.Value.{Value, fin, ever, _≼_, _≺_, _⊕_, leV, ltV, eqV, numberOf, valueOf}
+use Rattle.game.specs.Value.{Value, fin, ever, _≼_, _≺_, _⊕_, leV, ltV, eqV}
 
 -- the number of a finite value, and that `fin k` and `ever` differ
 pub fin-injective : (j k : ℕ) → _≡_ {A = Value} (fin j) (fin k) → j ≡ k
@@ -276,22 +275,3 @@ eqV-sound (fin j) (fin k) = (λ h. ap fin (eqb→eq j k h), λ e. subst (λ (i :
 eqV-sound (fin j) ever = (λ h. absurd h, λ e. fin-is-not-ever j e)
 eqV-sound ever (fin k) = (λ h. absurd h, λ e. fin-is-not-ever k (sym e))
 eqV-sound ever ever = (λ h. refl, λ e. tt)
-
--- a 16-bit number and its value
-pub number-of-value : (x : ℕ) → numberOf (valueOf x) ≡ x
-unfolding numberOf valueOf
-number-of-value x = go (ℕ-discrete x 65535)
-  where
-    go : Dec (x ≡ 65535) → numberOf (valueOf x) ≡ x
-    go (yes e) = rw (eq-eqb x 65535 e) (sym e)
-    go (no n) = rw (ne-eqb x 65535 n)
-
--- a finite value is below 65,535
-abbrev pub Fits : Value → Type 0
-Fits (fin k) = k < 65535
-Fits ever = Unit {0}
-
-pub value-of-number : (x : Value) → Fits x → valueOf (numberOf x) ≡ x
-unfolding numberOf valueOf
-value-of-number (fin k) h = rw (ne-eqb k 65535 (λ e. omega arith))
-value-of-number ever h = refl

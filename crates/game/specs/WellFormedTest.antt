@@ -6,10 +6,10 @@ use mathlib.Core.Path.{_≡_, subst}
 use mathlib.Core.Logic.{_⊎_, inl, inr}
 use mathlib.Core.Bool.{Bool, _&&_, _||_, not}
 use mathlib.Core.List.{List·Memᴰ, Memᴰ·cast}
-use lib.Dec.{T, eqb, ltb, ltb→lt, T-not, not-T}
+use lib.Dec.{T, eqb, eqb·suc-zero, ltb, ltb→lt, T-not, not-T}
+use Rattle.search.specs.Below.{someBelow}
 use Rattle.game.specs.Arena.{Arena, Move, WellFormed, size, ownerAt, mayBeDisturbed, Meant, disturbanceMove}
 use Rattle.game.specs.Table.{someMove, everyMove, meantFrom}
-use Rattle.game.specs.Summary.{someBelow}
 use Rattle.game.specs.MoveTests.{and-left, and-right, or-left, or-right, passes-or-fails, some-found, every-found, meant-move}
 
 unfoldable pub fits : Arena → Move → Bool
@@ -37,7 +37,9 @@ well-formed a h =
       kind = λ m mem. ltb→lt (m .cost) 2 (and-left (c m) (f m && (t m && d m)) (each m mem));
       from-position = λ m mem. ltb→lt (m .from) (size a) (and-left (f m) (t m && d m) (rest m mem));
       to-position = λ m mem. ltb→lt (m .to) (size a) (and-left (t m) (d m) (and-right (f m) (t m && d m) (rest m mem)));
-      disturbed = λ v w mem. and-right (t (disturbanceMove v w)) (d (disturbanceMove v w)) (and-right (f (disturbanceMove v w)) (t (disturbanceMove v w) && d (disturbanceMove v w)) (rest (disturbanceMove v w) mem));
+      disturbed = λ v w (k, mem).
+          let m = disturbanceMove (suc k) v w in
+          rw (eqb·suc-zero k) at (and-right (t m) (d m) (and-right (f m) (t m && d m) (rest m mem)));
       meant = λ v l. target v (some-found (meantFrom v) (a .moves) (has v l (passes-or-fails (someMove (meantFrom v) (a .moves)))));
     }
   where

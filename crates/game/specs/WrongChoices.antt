@@ -48,7 +48,7 @@ chart-a =
     record {
       positions = O 0 ∷ L 0 ∷ O 0 ∷ L 1 ∷ O 0 ∷ [];
       moves =
-          meantMove 0 1 ∷ disturbanceMove 0 2 ∷ meantMove 1 0 ∷ meantMove 2 0 ∷ meantMove 2 2 ∷ disturbanceMove 2 3 ∷ meantMove 3 3 ∷ meantMove 4 4 ∷ [];
+          meantMove 0 1 ∷ disturbanceMove 1 0 2 ∷ meantMove 1 0 ∷ meantMove 2 0 ∷ meantMove 2 2 ∷ disturbanceMove 1 2 3 ∷ meantMove 3 3 ∷ meantMove 4 4 ∷ [];
     }
 
 pub a-has-the-choice-zero : IsChoice chart-a (roundValue chart-a) 2 (fin 0) × (¬ (IsChoice chart-a (roundValue chart-a) 2 (fin 2)))
@@ -74,7 +74,7 @@ abbrev pub chart-rising : Arena
 chart-rising =
     record {
       positions = O 0 ∷ O 0 ∷ L 0 ∷ L 1 ∷ [];
-      moves = meantMove 0 1 ∷ meantMove 0 2 ∷ disturbanceMove 0 3 ∷ meantMove 1 1 ∷ disturbanceMove 1 3 ∷ meantMove 2 2 ∷ meantMove 3 3 ∷ [];
+      moves = meantMove 0 1 ∷ meantMove 0 2 ∷ disturbanceMove 1 0 3 ∷ meantMove 1 1 ∷ disturbanceMove 1 1 3 ∷ meantMove 2 2 ∷ meantMove 3 3 ∷ [];
     }
 
 pub rising-has-the-choice-two : IsChoice chart-rising (roundValue chart-rising) 0 (fin 2) × (¬ (IsChoice chart-rising (roundValue chart-rising) 0 (fin 1)))

@@ -80,7 +80,7 @@ countedAnyway a v (disturbed t w) = countedAnyway a v t + 1
 
 -- "f: O with M and D to a safe L that stays", with 1 unsafe
 abbrev pub chart-f : Arena
-chart-f = record { positions = O 0 ∷ L 1 ∷ []; moves = meantMove 0 1 ∷ disturbanceMove 0 1 ∷ meantMove 1 1 ∷ [] }
+chart-f = record { positions = O 0 ∷ L 1 ∷ []; moves = meantMove 0 1 ∷ disturbanceMove 1 0 1 ∷ meantMove 1 1 ∷ [] }
 
 -- "f, if 1 were unsafe, is 0"
 pub f-is-zero : IsValue chart-f 0 (fin 0)
@@ -128,7 +128,7 @@ i-is-zero-not-ever = (chart-value chart-i 0 (fin 0) tt, λ i. fin-is-not-ever 0 
 
 all-to-one : (b : Bool) (v w : ℕ) → Edge b chart-i v w → w ≡ 1
 unfolding everyMove someMove
-all-to-one true v w e = eqb→eq w 1 (every-found (λ m. eqb (m .to) 1) (chart-i .moves) (disturbanceMove v w) tt e)
+all-to-one true v w e = eqb→eq w 1 (every-found (λ m. eqb (m .to) 1) (chart-i .moves) (disturbanceMove (suc (e .0)) v w) tt (e .1))
 all-to-one false v w e = eqb→eq w 1 (every-found (λ m. eqb (m .to) 1) (chart-i .moves) (meantMove v w) tt e)
 
 -- every play from there recovers, as if nothing could go wrong

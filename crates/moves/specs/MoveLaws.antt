@@ -1,63 +1,57 @@
 -- What a move is, read off the rows; and what each kind says of the arena's moves: exactly document 01's sentence.
 use Prim.Native.Nat.{ℕ, _<_}
-use native.Mathlib.Omega.{arith}
 use mathlib.Core.Path.{_≡_, refl, sym, ap, subst, _∙_}
 use mathlib.Core.Logic.{_↔_}
 use mathlib.Core.Bool.{Bool, true, false, cond, _&&_, and-true, and-false}
 use mathlib.Core.List.{List}
 use lib.ListN.{getD}
 use lib.Dec.{T, eqb, eqb→eq, eqb-refl}
-use borrow.Author.Tests.{eq-eqb, ne-eqb}
-use Rattle.game.specs.Value.{Value, fin, ever, eqV, numberOf}
-use Rattle.game.specs.ValueLaws.{fin-is-not-ever, fin-injective}
+use borrow.Author.Tests.{eq-eqb}
+use Rattle.rows.specs.RowsLaws.{lines-of}
+use Rattle.rows.specs.Rows.{ownerNumber, RowsOf}
+use Rattle.rows.specs.Numbers.{numberAt}
+use Rattle.rows.specs.NumberLaws.{choice-number}
+use Rattle.rows.specs.Notes.{found}
+use Rattle.game.specs.Value.{Value, fin, eqV}
+use Rattle.game.specs.ValueLaws.{eqV-sound}
 use Rattle.game.specs.Arena.{Arena, Owner, controller, environment, ownerAt, moveAt, Meant, Disturbance}
 use Rattle.game.specs.Play.{Allows, targetOf}
 use Rattle.game.specs.Table.{meantFrom, disturbanceFrom}
-use Rattle.game.specs.MoveTests.{some-meant, some-disturbance, and-left, and-right, and-both}
-use Rattle.game.specs.Rows.{ownerNumber}
-use Rattle.round.specs.RowLaws.{found, numberAt}
-use Rattle.round.specs.Held.{Decoded}
-use Rattle.round.specs.HeldLaws.{lines-of}
+use Rattle.game.specs.MoveTests.{and-test, of-disturbance, of-meant, some-meant, some-disturbance}
 use Rattle.moves.specs.Moves.{isMeant, isDisturbance, kindAs, moveKind, KindSays, leadsTo, KindIs}
 use Rattle.moves.specs.declared.Kind.{Kind}
 use Rattle.moves.specs.declared.Kind.the-variants.{Meant as Chosen, Disturbance as Disturbed, Neither}
 
 -- In rows
 
--- a choice as a number is w, if w is no dash
-choice-number : (x : Value) (w : ℕ) → w < 65535 → eqb (numberOf x) w ≡ eqV x (fin w)
-unfolding numberOf eqV
-choice-number (fin k) w l = refl
-choice-number ever w l = ne-eqb 65535 w (λ e. omega arith)
-
 -- the kind by the four tests that the code makes
 abbrev pub rowKind : (own chosen meant disturbed : Bool) → Kind
 rowKind own chosen meant disturbed = cond own (cond (chosen && meant) Chosen (cond disturbed Disturbed Neither)) (cond meant Chosen Neither)
 
 module _ {n m : ℕ} {owners costs froms tos : List ℕ} where
-  module _ (a : Arena) (d : Decoded a n m owners costs froms tos) (v w : ℕ) where
-    meant-found : found (numberAt froms) (leadsTo 0 w costs tos) m v ≡ isMeant a v w
+  module _ (a : Arena) (marks : List ℕ) (d : RowsOf a n m owners marks costs froms tos) (v w : ℕ) where
+    meant-found : found (numberAt froms) (leadsTo true w costs tos) m v ≡ isMeant a v w
     unfolding leadsTo isMeant meantFrom
     meant-found =
-        lines-of a n m owners costs froms tos d v (leadsTo 0 w costs tos) (λ x. meantFrom v x && eqb (x .to) w)
-        (λ j l z. rw (d .cost j l, d .to j l, eq-eqb (moveAt a j .from) v z, and-true))
+        lines-of a n m owners marks costs froms tos d v (leadsTo true w costs tos) (λ x. meantFrom v x && eqb (x .to) w)
+        (λ j l z. rw (d .cost j l, d .to j l, of-meant, eq-eqb (moveAt a j .from) v z, and-true))
         (λ x e. rw (e, and-false))
 
-    disturbance-found : found (numberAt froms) (leadsTo 1 w costs tos) m v ≡ isDisturbance a v w
+    disturbance-found : found (numberAt froms) (leadsTo false w costs tos) m v ≡ isDisturbance a v w
     unfolding leadsTo isDisturbance disturbanceFrom
     disturbance-found =
-        lines-of a n m owners costs froms tos d v (leadsTo 1 w costs tos) (λ x. disturbanceFrom v x && eqb (x .to) w)
-        (λ j l z. rw (d .cost j l, d .to j l, eq-eqb (moveAt a j .from) v z, and-true))
+        lines-of a n m owners marks costs froms tos d v (leadsTo false w costs tos) (λ x. disturbanceFrom v x && eqb (x .to) w)
+        (λ j l z. rw (d .cost j l, d .to j l, of-disturbance, eq-eqb (moveAt a j .from) v z, and-true))
         (λ x e. rw (e, and-false))
 
   pub kind-is : (number v w : ℕ) {r : Kind} → v < n → w < 65535
-      → r ≡ rowKind (eqb (getD owners v 0) 0) (eqb number w) (found (numberAt froms) (leadsTo 0 w costs tos) m v) (found (numberAt froms) (leadsTo 1 w costs tos) m v)
+      → r ≡ rowKind (eqb (getD owners v 0) 0) (eqb number w) (found (numberAt froms) (leadsTo true w costs tos) m v) (found (numberAt froms) (leadsTo false w costs tos) m v)
       → KindIs n m owners costs froms tos number v w r
   unfolding moveKind kindAs
   kind-is number v w {r} inside small e =
       record {
-        answer = λ a d choice z.
-            e ∙ rw (z, choice-number choice w small, meant-found a d v w, disturbance-found a d v w, d .owner v inside)
+        answer = λ a marks d choice z.
+            e ∙ rw (z, choice-number choice w small, meant-found a marks d v w, disturbance-found a marks d v w, d .owner v inside)
             (go a choice (ownerAt a v));
       }
     where
@@ -66,11 +60,6 @@ module _ {n m : ℕ} {owners costs froms tos : List ℕ} where
       go a choice environment = refl
 
 -- In the arena
-
-eqV-fin : (x : Value) (w : ℕ) → T (eqV x (fin w)) ↔ (x ≡ fin w)
-unfolding eqV
-eqV-fin (fin k) w = (λ h. ap fin (eqb→eq k w h), λ e. subst (λ (j : ℕ). T (eqb j w)) (sym (fin-injective k w e)) (eqb-refl w))
-eqV-fin ever w = (λ h. absurd h, λ e. absurd (fin-is-not-ever w (sym e)))
 
 pub meant-exactly : (a : Arena) (v w : ℕ) → T (isMeant a v w) ↔ Meant a v w
 unfolding isMeant
@@ -88,10 +77,7 @@ disturbance-exactly a v w = (
 
 module _ (a : Arena) (choice : Value) (v w : ℕ) where
   chosen-exactly : T (eqV choice (fin w) && isMeant a v w) ↔ ((choice ≡ fin w) × Meant a v w)
-  chosen-exactly = (
-    λ h. (eqV-fin choice w .0 (and-left (eqV choice (fin w)) (isMeant a v w) h), meant-exactly a v w .0 (and-right (eqV choice (fin w)) (isMeant a v w) h)),
-    λ h. and-both (eqV choice (fin w)) (isMeant a v w) (eqV-fin choice w .1 (h .0)) (meant-exactly a v w .1 (h .1)),
-  )
+  chosen-exactly = and-test (eqV choice (fin w)) (isMeant a v w) (eqV-sound choice (fin w)) (meant-exactly a v w)
 
   says : (o : Owner) → KindSays o a choice v w (kindAs o a choice v w)
   unfolding kindAs
@@ -144,9 +130,9 @@ module _ (a : Arena) (choice : Value) (v w : ℕ) where
       go controller (c, m) = (m, sym (ap targetOf c))
       go environment m = (m, tt)
 
-  pub disturbance-follows : moveKind a choice v w ≡ Disturbed → Disturbance a v w × (ownerAt a v ≡ controller)
+  pub disturbance-follows : moveKind a choice v w ≡ Disturbed → Disturbance a v w
   disturbance-follows e = go (ownerAt a v) (kind-exactly Disturbed .0 e)
     where
-      go : (o : Owner) → KindSays o a choice v w Disturbed → Disturbance a v w × (o ≡ controller)
-      go controller (c, d) = (d, refl)
+      go : (o : Owner) → KindSays o a choice v w Disturbed → Disturbance a v w
+      go controller (c, d) = d
       go environment h = absurd h

@@ -5,10 +5,11 @@ use mathlib.Core.Bool.{Bool, cond, _&&_}
 use mathlib.Core.List.{List}
 use lib.ListN.{getD}
 use lib.Dec.{eqb}
-use Rattle.game.specs.Value.{Value, fin, eqV, numberOf}
+use Rattle.rows.specs.Rows.{RowsOf}
+use Rattle.rows.specs.Numbers.{numberOf}
+use Rattle.game.specs.Value.{Value, fin, eqV}
 use Rattle.game.specs.Arena.{Arena, Owner, controller, environment, ownerAt, Meant as MeantTarget, Disturbance as DisturbedTo}
-use Rattle.game.specs.Table.{someMove, meantFrom, disturbanceFrom}
-use Rattle.round.specs.Held.{Decoded}
+use Rattle.game.specs.Table.{someMove, meantFrom, disturbanceFrom, ofKind}
 use Rattle.moves.specs.declared.Kind.{Kind}
 use Rattle.moves.specs.declared.Kind.the-variants.{Meant, Disturbance, Neither}
 
@@ -38,13 +39,13 @@ KindSays environment a choice v w Meant = MeantTarget a v w
 KindSays environment a choice v w Disturbance = ⊥
 KindSays environment a choice v w Neither = MeantTarget a v w → ⊥
 
--- In rows: the i-th move has this cost and leads to w, and it leaves v
-unfoldable pub leadsTo : (cost w : ℕ) (costs tos : List ℕ) → ℕ → Bool
-leadsTo cost w costs tos i = eqb (getD costs i 0) cost && eqb (getD tos i 0) w
+-- In rows: the i-th move is of the kind sought and leads to w, and it leaves v
+unfoldable pub leadsTo : (meant : Bool) (w : ℕ) (costs tos : List ℕ) → ℕ → Bool
+leadsTo meant w costs tos i = ofKind meant (getD costs i 0) && eqb (getD tos i 0) w
 
-unfoldable pub leadsFrom : (cost v w : ℕ) (costs froms tos : List ℕ) → ℕ → Bool
-leadsFrom cost v w costs froms tos i = eqb (getD froms i 0) v && leadsTo cost w costs tos i
+unfoldable pub leadsFrom : (meant : Bool) (v w : ℕ) (costs froms tos : List ℕ) → ℕ → Bool
+leadsFrom meant v w costs froms tos i = eqb (getD froms i 0) v && leadsTo meant w costs tos i
 
 -- the answer to a chart's rows and a choice as a number, for every arena that the rows hold
 pub record KindIs (n m : ℕ) (owners costs froms tos : List ℕ) (number v w : ℕ) (r : Kind) : Type 0 where
-  pub answer : (a : Arena) → Decoded a n m owners costs froms tos → (choice : Value) → number ≡ numberOf choice → r ≡ moveKind a choice v w
+  pub answer : (a : Arena) (marks : List ℕ) → RowsOf a n m owners marks costs froms tos → (choice : Value) → number ≡ numberOf choice → r ≡ moveKind a choice v w

@@ -1,9 +1,11 @@
 // What a move from one position to another is, over a chart's rows.
 ghost use mathlib.Core.Path.{_≡_};
-ghost use Prim.Native.Nat.{_<_};
+ghost use mathlib.Core.List.{List};
+ghost use Prim.Native.Nat.{ℕ, _<_};
 ghost use lib.ListN.{length};
-ghost use Rattle.round.specs.Round.{Within};
-ghost use Rattle.round.specs.RowLaws.{found, numberAt};
+ghost use Rattle.rows.specs.Rows.{Within, ChartRows};
+ghost use Rattle.rows.specs.Numbers.{numberAt};
+ghost use Rattle.rows.specs.Notes.{found};
 ghost use Rattle.moves.specs.Moves.{KindIs, leadsTo, leadsFrom};
 
 // A meant move that may follow, a disturbance, or a move that can't follow.
@@ -13,8 +15,8 @@ pub enum Kind {
     Neither,
 }
 
-// What a move from v to w is where this choice stands at v. The bounds keep the rows within their length; w is below 65,535,
-// which is no position but the dash.
+// What a move from v to w is where this choice stands at v. The rows hold a chart; w is below 65,535, which is no position but the
+// dash.
 pub fn move_kind(
     v: usize,
     w: usize,
@@ -26,10 +28,10 @@ pub fn move_kind(
     froms: &[u16],
     tos: &[u16],
 ) -> Kind
-    requires { ⌜ Within n m (now costs) (now froms) (now tos) × (v < n) × (v < length (now owners)) × (w < 65535) ⌝ }
+    requires { ⌜ ((marks : List ℕ) × ChartRows n m (now owners) marks (now costs) (now froms) (now tos)) × (v < n) × (w < 65535) ⌝ }
     ensures { λ r. ⌜ KindIs n m (now (owners .entry)) (now (costs .entry)) (now (froms .entry)) (now (tos .entry)) choice v w r ⌝ }
 {
-    let meant = has_move(0, v, w, n, m, costs, froms, tos);
+    let meant = has_move(true, v, w, n, m, costs, froms, tos);
     if owners[v] != 0 {
         if meant {
             return Kind::Meant;
@@ -39,15 +41,15 @@ pub fn move_kind(
     if (choice as usize == w) & meant {
         return Kind::Meant;
     }
-    if has_move(1, v, w, n, m, costs, froms, tos) {
+    if has_move(false, v, w, n, m, costs, froms, tos) {
         return Kind::Disturbance;
     }
     Kind::Neither
 }
 
-// Some move of this cost leads from v to w.
+// Some meant move, or else some disturbance, leads from v to w.
 fn has_move(
-    cost: u8,
+    meant: bool,
     v: usize,
     w: usize,
     n: usize,
@@ -57,11 +59,11 @@ fn has_move(
     tos: &[u16],
 ) -> bool
     requires { ⌜ Within n m (now costs) (now froms) (now tos) ⌝ }
-    ensures { λ r. ⌜ r ≡ found (numberAt (now (froms .entry))) (leadsTo cost w (now (costs .entry)) (now (tos .entry))) m v ⌝ }
+    ensures { λ r. ⌜ r ≡ found (numberAt (now (froms .entry))) (leadsTo meant w (now (costs .entry)) (now (tos .entry))) m v ⌝ }
 {
     let mut i: usize = 0;
     while i < m {
-        if leads(i, cost, v, w, costs, froms, tos) {
+        if leads(i, meant, v, w, costs, froms, tos) {
             return true;
         }
         i += 1;
@@ -69,16 +71,21 @@ fn has_move(
     false
 }
 
-// The i-th move has this cost and leads from v to w.
-fn leads(i: usize, cost: u8, v: usize, w: usize, costs: &[u8], froms: &[u16], tos: &[u16]) -> bool
+// The i-th move is of the kind sought, meant or a disturbance, and leads from v to w.
+fn leads(
+    i: usize,
+    meant: bool,
+    v: usize,
+    w: usize,
+    costs: &[u8],
+    froms: &[u16],
+    tos: &[u16],
+) -> bool
     requires { ⌜ (i < length (now costs)) × (i < length (now froms)) × (i < length (now tos)) ⌝ }
-    ensures { λ r. ⌜ r ≡ leadsFrom cost v w (now (costs .entry)) (now (froms .entry)) (now (tos .entry)) i ⌝ }
+    ensures { λ r. ⌜ r ≡ leadsFrom meant v w (now (costs .entry)) (now (froms .entry)) (now (tos .entry)) i ⌝ }
 {
     if froms[i] as usize != v {
         return false;
     }
-    if costs[i] != cost {
-        return false;
-    }
-    tos[i] as usize == w
+    ((costs[i] == 0) == meant) & (tos[i] as usize == w)
 }

@@ -11,12 +11,12 @@ use mathlib.Core.List.{List}
 use lib.ListN.{length, getD}
 use lib.Dec.{eqb, ltb}
 use borrow.Author.Tests.{eqb-true, eqb-false, ltb-true, eq-eqb, lt-ltb}
-use Rattle.plate.specs.Text.{entryAt}
-use Rattle.plate.specs.Form.{letterAt, firstAt, secondAt, thirdAt, fourthAt, endAt, NumberBelow, DashOrBelow, EverOrBelow, HeaderForm, PositionForm, LineForm, OfForm, BadAt, badLength, badLine}
-use Rattle.plate.specs.Formed.{numberIs, numberBelow, dashOrBelow, everOrBelow, framed, headerGood, positionGoodAt, positionGood, formOf}
-use Rattle.plate.specs.FirstBad.{LowestBad, bad-none, bad-found}
-use Rattle.plate.specs.declared.Entry.{Entry}
-use Rattle.plate.specs.declared.Entry.the-variants.{Number, Dash, Ever, Bad}
+use Rattle.search.specs.First.{FirstAt, first-ended, first-answered}
+use Rattle.line.specs.Text.{entryAt, lineLetter, lineEnd, framed}
+use Rattle.plate.specs.Form.{columnAt, NumberBelow, DashOrBelow, EverOrBelow, HeaderForm, PositionForm, LineForm, OfForm, BadAt, badLength, badLine}
+use Rattle.plate.specs.Formed.{numberIs, numberBelow, dashOrBelow, everOrBelow, headerGood, positionGoodAt, positionGood, badPosition, formOf}
+use Rattle.line.specs.declared.Entry.{Entry}
+use Rattle.line.specs.declared.Entry.the-variants.{Number, Dash, Ever, Bad}
 use Rattle.plate.specs.declared.Form.{Form}
 use Rattle.plate.specs.declared.Form.the-variants.{Good, Bad as BadLine}
 
@@ -72,14 +72,14 @@ decides-ever b Ever = (λ e. tt, λ h. refl)
 decides-ever b Bad = decides-false (λ h. h)
 
 header-decides : (n : ℕ) (text : List ℕ) → Decides (headerGood n text) (HeaderForm n text)
-unfolding headerGood framed letterAt firstAt secondAt thirdAt fourthAt endAt
+unfolding headerGood framed columnAt
 header-decides n text = (
   λ e. let w = tests .0 e in record { letter = w .0 .0; count = w .1 .0; rounds = w .1 .1 .0; highest = w .1 .1 .1 .0; evers = w .1 .1 .1 .1; end = w .0 .1 },
   λ f. tests .1 ((f .letter, f .end), (f .count, (f .rounds, (f .highest, f .evers)))),
 )
   where
     tests : Decides (headerGood n text)
-        (((letterAt text 0 ≡ 80) × (endAt text 0 ≡ 10)) × ((firstAt text 0 ≡ Number n) × (NumberBelow 513 (secondAt text 0) × (DashOrBelow 512 (thirdAt text 0) × NumberBelow 513 (fourthAt text 0)))))
+        (((lineLetter 4 text 0 ≡ 80) × (lineEnd 4 text 0 ≡ 10)) × ((columnAt text 0 0 ≡ Number n) × (NumberBelow 513 (columnAt text 0 1) × (DashOrBelow 512 (columnAt text 0 2) × NumberBelow 513 (columnAt text 0 3)))))
     tests =
         decides-and _ _ (decides-and _ _ (decides-eq (getD text 0 0) 80) (decides-eq (getD text 21 0) 10))
         (decides-and _ _ (decides-number n (entryAt text 1))
@@ -87,14 +87,14 @@ header-decides n text = (
         (decides-and _ _ (decides-dash 512 (entryAt text 11)) (decides-below 513 (entryAt text 16)))))
 
 position-decides : (n : ℕ) (text : List ℕ) (v i : ℕ) → Decides (positionGoodAt n text v (i * 22)) (PositionForm n text v i)
-unfolding positionGoodAt framed letterAt firstAt secondAt thirdAt fourthAt endAt
+unfolding positionGoodAt framed columnAt
 position-decides n text v i = (
   λ e. let w = tests .0 e in record { letter = w .0 .0; position = w .1 .0; value = w .1 .1 .0; choice = w .1 .1 .1 .0; step = w .1 .1 .1 .1; end = w .0 .1 },
   λ f. tests .1 ((f .letter, f .end), (f .position, (f .value, (f .choice, f .step)))),
 )
   where
     tests : Decides (positionGoodAt n text v (i * 22))
-        (((letterAt text i ≡ 86) × (endAt text i ≡ 10)) × ((firstAt text i ≡ Number v) × (EverOrBelow 512 (secondAt text i) × (DashOrBelow n (thirdAt text i) × DashOrBelow 512 (fourthAt text i)))))
+        (((lineLetter 4 text i ≡ 86) × (lineEnd 4 text i ≡ 10)) × ((columnAt text i 0 ≡ Number v) × (EverOrBelow 512 (columnAt text i 1) × (DashOrBelow n (columnAt text i 2) × DashOrBelow 512 (columnAt text i 3)))))
     tests =
         decides-and _ _ (decides-and _ _ (decides-eq (getD text (i * 22) 0) 86) (decides-eq (getD text (i * 22 + 21) 0) 10))
         (decides-and _ _ (decides-number v (entryAt text (i * 22 + 1)))
@@ -107,16 +107,16 @@ line-decides n text v = rw (add-one v) (position-decides n text v (suc v))
 
 -- From the answer to its condition
 
+bad-is-not-good : (l : ℕ) → BadLine l ≡ Good → ⊥
+bad-is-not-good l q = let z : _≡_ {A = ℕ} 0 1 = cc in omega arith
+
 good-form : (n : ℕ) (text : List ℕ) → formOf n text ≡ Good → OfForm n text
 unfolding formOf LineForm
 good-form n text e = go (eqb (length text) ((n + 1) * 22)) (headerGood n text) refl refl
   where
-    bad : BadLine 0 ≡ Good → ⊥
-    bad q = let z : _≡_ {A = ℕ} 0 1 = cc in omega arith
-
     go : (a b : Bool) → eqb (length text) ((n + 1) * 22) ≡ a → headerGood n text ≡ b → OfForm n text
-    go false b p q = absurd (bad (simp p at e))
-    go true false p q = absurd (bad (simp (p, q) at e))
+    go false b p q = absurd (bad-is-not-good 0 (simp p at e))
+    go true false p q = absurd (bad-is-not-good 0 (simp (p, q) at e))
     go true true p q = record {
       size = eqb-true (length text) ((n + 1) * 22) p;
       line = line;
@@ -124,7 +124,9 @@ good-form n text e = go (eqb (length text) ((n + 1) * 22)) (headerGood n text) r
       where
         line : (i : ℕ) → i ≤ n → LineForm n text i
         line zero h = header-decides n text .0 q
-        line (suc v) h = rw (add-one v) at (line-decides n text v .0 (bad-none (positionGood n text) n 0 (simp (p, q) at e) v (omega arith) (omega arith)))
+        line (suc v) h =
+            let all = first-ended (positionGood n text) badPosition Good (λ u f z. bad-is-not-good (u + 1) z) n 0 (simp (p, q) at e) in
+            rw (add-one v) at (line-decides n text v .0 (all v (omega arith) (omega arith)))
 
 bad-form : (n l : ℕ) (text : List ℕ) → formOf n text ≡ BadLine l → BadAt n text l
 unfolding formOf LineForm
@@ -142,15 +144,18 @@ bad-form n l text e = go (eqb (length text) ((n + 1) * 22)) (headerGood n text) 
         subst (BadAt n text) (first (simp (p, q) at e))
         (badLine (eqb-true (length text) ((n + 1) * 22) p) (omega arith) (λ f. not-true (headerGood n text) q (header-decides n text .1 f)) (λ i h. absurd (omega arith)))
     go true true p q =
-        subst (BadAt n text) (sym (w .line))
-        (badLine (eqb-true (length text) ((n + 1) * 22) p) (omega (arith, w .high)) (λ f. not-true (positionGood n text (w .position)) (w .bad) (line-decides n text (w .position) .1 f)) below)
+        subst (BadAt n text) (same (w .2))
+        (badLine (eqb-true (length text) ((n + 1) * 22) p) (omega (arith, w .1 .high)) (λ f. not-true (positionGood n text (w .0)) (w .1 .fails) (line-decides n text (w .0) .1 f)) below)
       where
-        w : LowestBad (positionGood n text) n 0 l
-        w = bad-found (positionGood n text) l n 0 (simp (p, q) at e)
+        same : {k : ℕ} → BadLine k ≡ BadLine l → k ≡ l
+        same z = cc
 
-        below : (i : ℕ) → i < w .position + 1 → LineForm n text i
+        w : (v : ℕ) × FirstAt (positionGood n text) n 0 v × (badPosition v ≡ BadLine l)
+        w = first-answered (positionGood n text) badPosition Good (BadLine l) (λ z. bad-is-not-good l (sym z)) n 0 (simp (p, q) at e)
+
+        below : (i : ℕ) → i < w .0 + 1 → LineForm n text i
         below zero h = header-decides n text .0 q
-        below (suc v) h = rw (add-one v) at (line-decides n text v .0 (w .before v (omega arith) (omega arith)))
+        below (suc v) h = rw (add-one v) at (line-decides n text v .0 (w .1 .passed v (omega arith) (omega arith)))
 
 -- The conditions exclude each other
 

@@ -4,29 +4,14 @@
 use Prim.Native.Nat.{ℕ, zero, suc, _+_, _*_, _≤_, _<_}
 use mathlib.Core.Path.{_≡_}
 use mathlib.Core.List.{List}
-use lib.ListN.{length, getD}
-use Rattle.plate.specs.Text.{entryAt}
-use Rattle.plate.specs.declared.Entry.{Entry}
-use Rattle.plate.specs.declared.Entry.the-variants.{Number, Dash, Ever, Bad}
+use lib.ListN.{length}
+use Rattle.line.specs.Text.{entryAt, lineLetter, lineEnd, lineField}
+use Rattle.line.specs.declared.Entry.{Entry}
+use Rattle.line.specs.declared.Entry.the-variants.{Number, Dash, Ever, Bad}
 
--- the letter of line i, its four fields and its last byte
-unfoldable pub letterAt : List ℕ → ℕ → ℕ
-letterAt text i = getD text (i * 22) 0
-
-unfoldable pub firstAt : List ℕ → ℕ → Entry
-firstAt text i = entryAt text (i * 22 + 1)
-
-unfoldable pub secondAt : List ℕ → ℕ → Entry
-secondAt text i = entryAt text (i * 22 + 6)
-
-unfoldable pub thirdAt : List ℕ → ℕ → Entry
-thirdAt text i = entryAt text (i * 22 + 11)
-
-unfoldable pub fourthAt : List ℕ → ℕ → Entry
-fourthAt text i = entryAt text (i * 22 + 16)
-
-unfoldable pub endAt : List ℕ → ℕ → ℕ
-endAt text i = getD text (i * 22 + 21) 0
+-- field j of line i, counted from 0
+unfoldable pub columnAt : List ℕ → ℕ → ℕ → Entry
+columnAt text i j = entryAt text (lineField 4 i j)
 
 -- a number below the bound
 unfoldable pub NumberBelow : ℕ → Entry → Type 0
@@ -51,21 +36,21 @@ EverOrBelow bound Bad = ⊥
 
 -- the first line: `P`, n, rounds, highest, "ever" count
 pub record HeaderForm (n : ℕ) (text : List ℕ) : Type 0 where
-  pub letter : letterAt text 0 ≡ 80
-  pub count : firstAt text 0 ≡ Number n
-  pub rounds : NumberBelow 513 (secondAt text 0)
-  pub highest : DashOrBelow 512 (thirdAt text 0)
-  pub evers : NumberBelow 513 (fourthAt text 0)
-  pub end : endAt text 0 ≡ 10
+  pub letter : lineLetter 4 text 0 ≡ 80
+  pub count : columnAt text 0 0 ≡ Number n
+  pub rounds : NumberBelow 513 (columnAt text 0 1)
+  pub highest : DashOrBelow 512 (columnAt text 0 2)
+  pub evers : NumberBelow 513 (columnAt text 0 3)
+  pub end : lineEnd 4 text 0 ≡ 10
 
 -- line i, i at least 1: `V`, position i - 1, value, choice, step
 pub record PositionForm (n : ℕ) (text : List ℕ) (v i : ℕ) : Type 0 where
-  pub letter : letterAt text i ≡ 86
-  pub position : firstAt text i ≡ Number v
-  pub value : EverOrBelow 512 (secondAt text i)
-  pub choice : DashOrBelow n (thirdAt text i)
-  pub step : DashOrBelow 512 (fourthAt text i)
-  pub end : endAt text i ≡ 10
+  pub letter : lineLetter 4 text i ≡ 86
+  pub position : columnAt text i 0 ≡ Number v
+  pub value : EverOrBelow 512 (columnAt text i 1)
+  pub choice : DashOrBelow n (columnAt text i 2)
+  pub step : DashOrBelow 512 (columnAt text i 3)
+  pub end : lineEnd 4 text i ≡ 10
 
 -- the form of line i
 unfoldable pub LineForm : ℕ → List ℕ → ℕ → Type 0

@@ -1,13 +1,14 @@
 -- The form of a plate, computed: a test for each line, and the lowest line that fails. That it answers what specs/Form.antt says
 -- is proved in specs/Exact.antt.
-use Prim.Native.Nat.{ℕ, zero, suc, _+_, _*_}
+use Prim.Native.Nat.{ℕ, _+_, _*_}
 use mathlib.Core.Bool.{Bool, true, false, cond, _&&_}
 use mathlib.Core.List.{List}
-use lib.ListN.{length, getD}
+use lib.ListN.{length}
 use lib.Dec.{eqb, ltb}
-use Rattle.plate.specs.Text.{entryAt}
-use Rattle.plate.specs.declared.Entry.{Entry}
-use Rattle.plate.specs.declared.Entry.the-variants.{Number, Dash, Ever, Bad}
+use Rattle.search.specs.First.{firstFrom}
+use Rattle.line.specs.Text.{entryAt, framed}
+use Rattle.line.specs.declared.Entry.{Entry}
+use Rattle.line.specs.declared.Entry.the-variants.{Number, Dash, Ever, Bad}
 use Rattle.plate.specs.declared.Form.{Form}
 use Rattle.plate.specs.declared.Form.the-variants.{Good, Bad as BadLine}
 
@@ -37,27 +38,22 @@ everOrBelow bound Dash = false
 everOrBelow bound Ever = true
 everOrBelow bound Bad = false
 
--- the 22 bytes from `at` begin with the letter and end with a line feed
-unfoldable pub framed : List ℕ → ℕ → ℕ → Bool
-framed text at letter = eqb (getD text at 0) letter && eqb (getD text (at + 21) 0) 10
-
 unfoldable pub headerGood : ℕ → List ℕ → Bool
 headerGood n text =
-    framed text 0 80 && (numberIs n (entryAt text 1) && (numberBelow 513 (entryAt text 6) && (dashOrBelow 512 (entryAt text 11) && numberBelow 513 (entryAt text 16))))
+    framed text 0 4 80 && (numberIs n (entryAt text 1) && (numberBelow 513 (entryAt text 6) && (dashOrBelow 512 (entryAt text 11) && numberBelow 513 (entryAt text 16))))
 
 -- the 22 bytes from `at` are of the form for position v
 unfoldable pub positionGoodAt : ℕ → List ℕ → ℕ → ℕ → Bool
 positionGoodAt n text v at =
-    framed text at 86 && (numberIs v (entryAt text (at + 1)) && (everOrBelow 512 (entryAt text (at + 6)) && (dashOrBelow n (entryAt text (at + 11)) && dashOrBelow 512 (entryAt text (at + 16)))))
+    framed text at 4 86 && (numberIs v (entryAt text (at + 1)) && (everOrBelow 512 (entryAt text (at + 6)) && (dashOrBelow n (entryAt text (at + 11)) && dashOrBelow 512 (entryAt text (at + 16)))))
 
 unfoldable pub positionGood : ℕ → List ℕ → ℕ → Bool
 positionGood n text v = positionGoodAt n text v ((v + 1) * 22)
 
--- the lowest line of `count` positions from v on that fails the test
-unfoldable pub firstBad : (ℕ → Bool) → ℕ → ℕ → Form
-firstBad good zero v = Good
-firstBad good (suc count) v = cond (good v) (firstBad good count (v + 1)) (BadLine (v + 1))
+-- position v's line is the bad one
+abbrev pub badPosition : ℕ → Form
+badPosition v = BadLine (v + 1)
 
 unfoldable pub formOf : ℕ → List ℕ → Form
 formOf n text =
-    cond (eqb (length text) ((n + 1) * 22)) (cond (headerGood n text) (firstBad (positionGood n text) n 0) (BadLine 0)) (BadLine 0)
+    cond (eqb (length text) ((n + 1) * 22)) (cond (headerGood n text) (firstFrom (positionGood n text) badPosition Good n 0) (BadLine 0)) (BadLine 0)

@@ -1,15 +1,11 @@
 pub mod Text
-pub mod Written
 pub mod Line
 pub mod Form
 pub mod Formed
-pub mod FirstBad
 pub mod Exact
 pub mod Read
 pub mod ReadLaws
-pub mod Entries
 pub mod Range
 pub mod RangeLaws
-pub mod Columns
 pub mod RoundTrip
 pub mod RowTrip

@@ -2,15 +2,16 @@
 use Prim.Native.Nat.{ℕ, _≤_, _<_}
 use native.Mathlib.Omega.{arith}
 use mathlib.Core.Path.{_≡_, refl}
-use Rattle.game.specs.Value.{Value, fin, ever, numberOf}
-use Rattle.game.specs.ValueLaws.{Fits}
+use Rattle.rows.specs.Numbers.{numberOf}
+use Rattle.rows.specs.NumberLaws.{Fits}
+use Rattle.game.specs.Value.{Value, fin, ever}
 use Rattle.plate.specs.Text.{valueEntry, dashEntry}
 use Rattle.plate.specs.Form.{NumberBelow, DashOrBelow, EverOrBelow}
 use Rattle.plate.specs.Read.{entryValue, entryNumber}
 use Rattle.plate.specs.Range.{Below}
-use Rattle.plate.specs.Entries.{Writable}
-use Rattle.plate.specs.declared.Entry.{Entry}
-use Rattle.plate.specs.declared.Entry.the-variants.{Number, Dash, Ever, Bad}
+use Rattle.line.specs.Entries.{Writable}
+use Rattle.line.specs.declared.Entry.{Entry}
+use Rattle.line.specs.declared.Entry.the-variants.{Number, Dash, Ever, Bad}
 
 -- From the form to the value
 

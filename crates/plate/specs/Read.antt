@@ -3,12 +3,13 @@
 use Prim.Native.Nat.{ℕ, _+_}
 use mathlib.Core.Path.{_≡_}
 use mathlib.Core.List.{List}
-use Rattle.game.specs.Value.{Value, fin, ever, numberOf}
-use Rattle.game.specs.Rows.{Filled}
-use Rattle.summary.specs.declared.Summary.{Summary}
-use Rattle.plate.specs.Form.{secondAt, thirdAt, fourthAt}
-use Rattle.plate.specs.declared.Entry.{Entry}
-use Rattle.plate.specs.declared.Entry.the-variants.{Number, Dash, Ever, Bad}
+use Rattle.rows.specs.Rows.{Filled}
+use Rattle.rows.specs.Numbers.{numberOf}
+use Rattle.game.specs.Value.{Value, fin, ever}
+use Rattle.rows.specs.declared.FirstLine.{FirstLine}
+use Rattle.plate.specs.Form.{columnAt}
+use Rattle.line.specs.declared.Entry.{Entry}
+use Rattle.line.specs.declared.Entry.the-variants.{Number, Dash, Ever, Bad}
 
 -- an entry of a column; a bad one is of no plate of the form
 unfoldable pub entryValue : Entry → Value
@@ -22,18 +23,18 @@ abbrev pub entryNumber : Entry → ℕ
 entryNumber e = numberOf (entryValue e)
 
 -- rounds, highest finite value and count of "ever" on the first line
-unfoldable pub headerIn : List ℕ → Summary
-headerIn text = record { rounds = entryNumber (secondAt text 0); highest = entryNumber (thirdAt text 0); evers = entryNumber (fourthAt text 0) }
+unfoldable pub headerIn : List ℕ → FirstLine
+headerIn text = record { rounds = entryNumber (columnAt text 0 1); highest = entryNumber (columnAt text 0 2); evers = entryNumber (columnAt text 0 3) }
 
 -- value, choice and step of position v, on line v + 1
 unfoldable pub valueIn : List ℕ → ℕ → Value
-valueIn text v = entryValue (secondAt text (v + 1))
+valueIn text v = entryValue (columnAt text (v + 1) 1)
 
 unfoldable pub choiceIn : List ℕ → ℕ → Value
-choiceIn text v = entryValue (thirdAt text (v + 1))
+choiceIn text v = entryValue (columnAt text (v + 1) 2)
 
 unfoldable pub stepIn : List ℕ → ℕ → Value
-stepIn text v = entryValue (fourthAt text (v + 1))
+stepIn text v = entryValue (columnAt text (v + 1) 3)
 
 -- the rows hold the plate's columns of n positions
 pub record ColumnsRead (n : ℕ) (text : List ℕ) (values₀ values choices₀ choices steps₀ steps : List ℕ) : Type 0 where
@@ -42,6 +43,6 @@ pub record ColumnsRead (n : ℕ) (text : List ℕ) (values₀ values choices₀ 
   pub step : Filled steps₀ steps n (λ v. numberOf (stepIn text v))
 
 -- and the answer is the first line
-pub record RowsRead (n : ℕ) (text : List ℕ) (r : Summary) (values₀ values choices₀ choices steps₀ steps : List ℕ) : Type 0 where
+pub record RowsRead (n : ℕ) (text : List ℕ) (r : FirstLine) (values₀ values choices₀ choices steps₀ steps : List ℕ) : Type 0 where
   pub header : r ≡ headerIn text
   pub rows : ColumnsRead n text values₀ values choices₀ choices steps₀ steps

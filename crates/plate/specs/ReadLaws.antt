@@ -5,13 +5,13 @@ use native.Mathlib.Numerals.{add-one}
 use mathlib.Core.Path.{_≡_}
 use mathlib.Core.List.{List}
 use lib.ListN.{length}
-use Rattle.game.specs.Value.{numberOf}
-use Rattle.plate.specs.Form.{secondAt, thirdAt, fourthAt, NumberBelow, DashOrBelow, EverOrBelow, HeaderForm, PositionForm, LineForm, OfForm}
+use Rattle.rows.specs.Numbers.{numberOf}
+use Rattle.plate.specs.Form.{columnAt, NumberBelow, DashOrBelow, EverOrBelow, HeaderForm, PositionForm, LineForm, OfForm}
 use Rattle.plate.specs.Formed.{formOf}
 use Rattle.plate.specs.Exact.{form-exact}
 use Rattle.plate.specs.Read.{entryValue, entryNumber}
-use Rattle.plate.specs.declared.Entry.{Entry}
-use Rattle.plate.specs.declared.Entry.the-variants.{Number, Dash, Ever, Bad}
+use Rattle.line.specs.declared.Entry.{Entry}
+use Rattle.line.specs.declared.Entry.the-variants.{Number, Dash, Ever, Bad}
 use Rattle.plate.specs.declared.Form.the-variants.{Good}
 
 number-fits : (b : ℕ) (e : Entry) → b ≤ 65535 → NumberBelow b e → entryNumber e ≤ 65535
@@ -47,9 +47,9 @@ position-line-form n text w v h = rw (add-one v) (w .line (suc v) (omega arith))
 -- a line is within the text, and its three columns fit 16 bits
 pub record LineFits (text : List ℕ) (i : ℕ) : Type 0 where
   pub inside : (i + 1) * 22 ≤ length text
-  pub second : entryNumber (secondAt text i) ≤ 65535
-  pub third : entryNumber (thirdAt text i) ≤ 65535
-  pub fourth : entryNumber (fourthAt text i) ≤ 65535
+  pub second : entryNumber (columnAt text i 1) ≤ 65535
+  pub third : entryNumber (columnAt text i 2) ≤ 65535
+  pub fourth : entryNumber (columnAt text i 3) ≤ 65535
 
 module _ (n : ℕ) (text : List ℕ) (small : n ≤ 512) (good : formOf n text ≡ Good) where
   pub header-fits : LineFits text 0

@@ -1,27 +1,23 @@
 // The plate's text (document 01, "The plate") at the level of rows: whether a text is of the form under 11, and the header and the
 // three rows of numbers of one that is. 65,535 stands for `ever` and `-` in the rows.
 ghost use mathlib.Core.Path.{_≡_};
-ghost use mathlib.Core.List.{[], _∷_};
 ghost use Prim.Native.Nat.{_+_, _*_, _≤_};
 ghost use lib.ListN.{length};
-ghost use Rattle.field.specs.Text.{five};
-ghost use Rattle.plate.specs.Text.{entryAt, sameText};
-ghost use Rattle.plate.specs.Formed.{numberIs, numberBelow, dashOrBelow, everOrBelow, framed, headerGood, positionGood, firstBad, formOf};
+ghost use Rattle.search.specs.First.{firstFrom};
+ghost use Rattle.line.specs.Text.{entryAt};
+ghost use Rattle.plate.specs.Formed.{numberIs, numberBelow, dashOrBelow, everOrBelow, headerGood, positionGood, badPosition, formOf};
 ghost use Rattle.plate.specs.Read.{entryNumber, RowsRead};
-use field::Field;
-use round::NONE;
-use summary::Summary;
+use line::Entry;
+use line::framed;
+use line::read_entry;
+use rows::Chart;
+use rows::FirstLine;
+use rows::NONE;
 
-// The bytes of a line.
+// The fields of a line, and its bytes.
+pub const FIELDS: usize = 4;
+
 pub const LINE: usize = 22;
-
-// What a field of a plate reads as.
-pub enum Entry {
-    Number(u32),
-    Dash,
-    Ever,
-    Bad,
-}
 
 // What examining a plate finds: the form, or the lowest line that is not of it.
 pub enum Form {
@@ -53,7 +49,7 @@ pub fn examine_plate(n: usize, plate: &[u8]) -> Form
 // The lowest bad line after the first.
 fn positions_form(n: usize, plate: &[u8]) -> Form
     requires { ⌜ (n + 1) * 22 ≤ length (now plate) ⌝ }
-    ensures { λ r. ⌜ r ≡ firstBad (positionGood n (now (plate .entry))) n 0 ⌝ }
+    ensures { λ r. ⌜ r ≡ firstFrom (positionGood n (now (plate .entry))) badPosition Form.Good n 0 ⌝ }
 {
     let mut v = 0;
     while v < n {
@@ -70,19 +66,19 @@ fn header_good(n: usize, plate: &[u8]) -> bool
     requires { ⌜ 22 ≤ length (now plate) ⌝ }
     ensures { λ r. ⌜ r ≡ headerGood n (now (plate .entry)) ⌝ }
 {
-    if !framed(plate, 0, b'P') {
+    if !framed(plate, 0, FIELDS, b'P') {
         return false;
     }
     if !number_is(plate, 1, n) {
         return false;
     }
-    if !number_below(plate, 6, 513) {
+    if !number_below(plate, 6, Chart::POSITIONS + 1) {
         return false;
     }
-    if !dash_or_below(plate, 11, 512) {
+    if !dash_or_below(plate, 11, Chart::POSITIONS) {
         return false;
     }
-    number_below(plate, 16, 513)
+    number_below(plate, 16, Chart::POSITIONS + 1)
 }
 
 // A position's line: position, value, choice, step.
@@ -91,30 +87,19 @@ fn position_good(n: usize, plate: &[u8], v: usize) -> bool
     ensures { λ r. ⌜ r ≡ positionGood n (now (plate .entry)) v ⌝ }
 {
     let at = (v + 1) * LINE;
-    if !framed(plate, at, b'V') {
+    if !framed(plate, at, FIELDS, b'V') {
         return false;
     }
     if !number_is(plate, at + 1, v) {
         return false;
     }
-    if !ever_or_below(plate, at + 6, 512) {
+    if !ever_or_below(plate, at + 6, Chart::POSITIONS) {
         return false;
     }
     if !dash_or_below(plate, at + 11, n) {
         return false;
     }
-    dash_or_below(plate, at + 16, 512)
-}
-
-// A line begins with the letter and ends with a line feed.
-fn framed(plate: &[u8], at: usize, letter: u8) -> bool
-    requires { ⌜ at + 22 ≤ length (now plate) ⌝ }
-    ensures { λ r. ⌜ r ≡ framed (now (plate .entry)) at letter ⌝ }
-{
-    if plate[at] != letter {
-        return false;
-    }
-    plate[at + 21] == 10
+    dash_or_below(plate, at + 16, Chart::POSITIONS)
 }
 
 // What an entry is: one number, a number below a bound, or else a dash, or else "ever".
@@ -174,7 +159,7 @@ pub fn read_rows(
     values: &mut [u16],
     choices: &mut [u16],
     steps: &mut [u16],
-) -> Summary
+) -> FirstLine
     requires { ⌜ (n ≤ 512) × (formOf n (now plate) ≡ Form.Good) ⌝ }
     requires { ⌜ (n ≤ length (now values)) × (n ≤ length (now choices)) × (n ≤ length (now steps)) ⌝ }
     ensures { λ r. ⌜ RowsRead n (now (plate .entry)) r (now (values .entry)) (now (values .exit)) (now (choices .entry)) (now (choices .exit)) (now (steps .entry)) (now (steps .exit)) ⌝ }
@@ -187,7 +172,7 @@ pub fn read_rows(
         steps[v] = number_at(plate, at + 16);
         v += 1;
     }
-    Summary {
+    FirstLine {
         rounds: number_at(plate, 6),
         highest: number_at(plate, 11),
         evers: number_at(plate, 16),
@@ -205,46 +190,4 @@ pub fn number_at(plate: &[u8], at: usize) -> u16
         Entry::Ever => NONE,
         Entry::Bad => NONE,
     }
-}
-
-// The entry at `at`. The bound keeps its five bytes within the text.
-pub fn read_entry(text: &[u8], at: usize) -> Entry
-    requires { ⌜ at + 5 ≤ length (now text) ⌝ }
-    ensures { λ r. ⌜ r ≡ entryAt (now (text .entry)) at ⌝ }
-{
-    match field::read(text, at) {
-        Field::Number(x) => Entry::Number(x),
-        Field::Bad => {
-            if spells(text, at, b' ', b' ', b' ', b'-') {
-                return Entry::Dash;
-            }
-            if spells(text, at, b'e', b'v', b'e', b'r') {
-                return Entry::Ever;
-            }
-            Entry::Bad
-        }
-    }
-}
-
-// Whether the five bytes from `at` are a space and these.
-fn spells(text: &[u8], at: usize, b: u8, c: u8, d: u8, e: u8) -> bool
-    requires { ⌜ at + 5 ≤ length (now text) ⌝ }
-    ensures { λ r. ⌜ r ≡ sameText (five (now (text .entry)) at) (32 ∷ b ∷ c ∷ d ∷ e ∷ []) ⌝ }
-{
-    if text[at] != b' ' {
-        return false;
-    }
-    if text[at + 1] != b {
-        return false;
-    }
-    if text[at + 2] != c {
-        return false;
-    }
-    if text[at + 3] != d {
-        return false;
-    }
-    if text[at + 4] != e {
-        return false;
-    }
-    true
 }

@@ -3,20 +3,20 @@ ghost use mathlib.Core.Path.{_≡_};
 ghost use mathlib.Core.List.{[], _∷_, _++_};
 ghost use Prim.Native.Nat.{_+_, _*_, _≤_, _<_};
 ghost use lib.ListN.{length, drop};
-ghost use lib.Seq.{sets};
-ghost use Rattle.game.specs.Value.{valueOf};
-ghost use Rattle.summary.specs.Summarize.{rowValue};
-ghost use Rattle.plate.specs.Text.{withEntry, lineText, valueEntry, dashEntry, positionLine, positionLines, plateText};
-use plate::Entry;
+ghost use Rattle.rows.specs.Numbers.{valueOf, rowValue};
+ghost use Rattle.line.specs.Text.{lineText};
+ghost use Rattle.plate.specs.Text.{valueEntry, dashEntry, positionLine, positionLines, plateText};
+use line::Entry;
+use line::write_entry;
 use plate::LINE;
-use round::NONE;
-use summary::Summary;
+use rows::FirstLine;
+use rows::NONE;
 
 // A plate of n positions into `out`; what lies past its last line stays. The bounds keep the rows and the buffer long enough,
 // and the count within its field.
 pub fn write_rows(
     n: usize,
-    header: Summary,
+    header: FirstLine,
     values: &[u16],
     choices: &[u16],
     steps: &[u16],
@@ -70,7 +70,7 @@ fn write_position(v: usize, value: u16, choice: u16, step: u16, part: &mut [u8])
 // A line into the first 22 bytes of a part; the others stay.
 fn write_line(letter: u8, a: Entry, b: Entry, c: Entry, d: Entry, part: &mut [u8])
     requires { ⌜ 22 ≤ length (now part) ⌝ }
-    ensures { λ _. ⌜ now (part .exit) ≡ lineText letter a b c d ++ drop 22 (now (part .entry)) ⌝ }
+    ensures { λ _. ⌜ now (part .exit) ≡ lineText letter (a ∷ b ∷ c ∷ d ∷ []) ++ drop 22 (now (part .entry)) ⌝ }
 {
     part[0] = letter;
     write_entry(a, part, 1);
@@ -99,29 +99,4 @@ fn dash_entry(x: u16) -> Entry
     } else {
         Entry::Number(x as u32)
     }
-}
-
-// An entry into its five places from `at`. The bound keeps them within the text. A bad one is left blank.
-fn write_entry(e: Entry, text: &mut [u8], at: usize)
-    requires { ⌜ at + 5 ≤ length (now text) ⌝ }
-    ensures { λ _. ⌜ now (text .exit) ≡ withEntry (now (text .entry)) at e ⌝ }
-{
-    match e {
-        Entry::Number(x) => field::write(x, text, at),
-        Entry::Dash => write_word(b' ', b' ', b' ', b'-', text, at),
-        Entry::Ever => write_word(b'e', b'v', b'e', b'r', text, at),
-        Entry::Bad => write_word(b' ', b' ', b' ', b' ', text, at),
-    }
-}
-
-// A space and four bytes.
-fn write_word(b: u8, c: u8, d: u8, e: u8, text: &mut [u8], at: usize)
-    requires { ⌜ at + 5 ≤ length (now text) ⌝ }
-    ensures { λ _. ⌜ now (text .exit) ≡ sets (now (text .entry)) at (32 ∷ b ∷ c ∷ d ∷ e ∷ []) ⌝ }
-{
-    text[at] = b' ';
-    text[at + 1] = b;
-    text[at + 2] = c;
-    text[at + 3] = d;
-    text[at + 4] = e;
 }

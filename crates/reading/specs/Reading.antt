@@ -9,42 +9,30 @@ use lib.Dec.{leb}
 use Rattle.game.specs.Arena.{size}
 use Rattle.chart.specs.Meaning.{arenaOf}
 use Rattle.chart.specs.Examined.{examined}
-use Rattle.refusal.specs.Numbers.{refusalNumber, refusalLine}
+use Rattle.refusal.specs.declared.Refusal.{Refusal}
+use Rattle.refusal.specs.declared.Refusal.the-variants.{Chart as OfChart, Short, Plate}
 use Rattle.chart.specs.declared.Examination.{Examination}
 use Rattle.chart.specs.declared.Examination.the-variants.{Accepted, Refused}
-use Rattle.summary.specs.declared.Summary.{Summary}
+use Rattle.rows.specs.declared.FirstLine.{FirstLine}
 use Rattle.plate.specs.Formed.{formOf}
 use Rattle.plate.specs.Read.{headerIn, ColumnsRead}
 use Rattle.plate.specs.declared.Form.{Form}
 use Rattle.plate.specs.declared.Form.the-variants.{Good, Bad}
 use Rattle.reading.specs.declared.Reading.{Reading}
-use Rattle.reading.specs.declared.Reading.the-variants.{Rows, Refused as Turned, Short, Malformed}
-
--- the refusal's number and line, as in document 01's table; 0 for an answer with rows
-abbrev pub readingNumber : Reading → ℕ
-readingNumber (Rows h) = 0
-readingNumber (Turned r) = refusalNumber r
-readingNumber Short = 10
-readingNumber (Malformed line) = 11
-
-abbrev pub readingLine : Reading → ℕ
-readingLine (Rows h) = 0
-readingLine (Turned r) = refusalLine r
-readingLine Short = 0
-readingLine (Malformed line) = line
+use Rattle.reading.specs.declared.Reading.the-variants.{Rows, Refused as Turned}
 
 -- the answer to a plate that was examined
 unfoldable pub answerTo : List ℕ → Form → Reading
 answerTo plate Good = Rows (headerIn plate)
-answerTo plate (Bad line) = Malformed line
+answerTo plate (Bad line) = Turned (Plate line)
 
 -- the answer to a chart that was examined, a plate, and rows of these lengths
 unfoldable pub readBy : Examination → List ℕ → (values choices steps : ℕ) → Reading
-readBy (Refused r) plate values choices steps = Turned r
+readBy (Refused r) plate values choices steps = Turned (OfChart r)
 readBy (Accepted chart) plate values choices steps =
     cond (leb (chart .positions) values && (leb (chart .positions) choices && leb (chart .positions) steps))
     (answerTo plate (formOf (chart .positions) plate))
-    Short
+    (Turned Short)
 
 unfoldable pub reading : List ℕ → List ℕ → (values choices steps : ℕ) → Reading
 reading text plate values choices steps = readBy (examined text) plate values choices steps
@@ -52,5 +40,5 @@ reading text plate values choices steps = readBy (examined text) plate values ch
 -- the answer, and every lent number afterwards
 pub record ReadingIs (text plate values values′ choices choices′ steps steps′ : List ℕ) (r : Reading) : Type 0 where
   pub answer : r ≡ reading text plate (length values) (length choices) (length steps)
-  pub taken : (h : Summary) → r ≡ Rows h → ColumnsRead (size (arenaOf text)) plate values values′ choices choices′ steps steps′
-  pub refused : ((h : Summary) → r ≡ Rows h → ⊥) → (values′ ≡ values) × (choices′ ≡ choices) × (steps′ ≡ steps)
+  pub taken : (h : FirstLine) → r ≡ Rows h → ColumnsRead (size (arenaOf text)) plate values values′ choices choices′ steps steps′
+  pub refused : (x : Refusal) → r ≡ Turned x → (values′ ≡ values) × (choices′ ≡ choices) × (steps′ ≡ steps)

@@ -6,15 +6,13 @@ use plate::Form;
 use plate::examine_plate;
 use plate::read_rows;
 use refusal::Refusal;
-use summary::Summary;
+use rows::FirstLine;
 
-// What Reading answers: the first line's numbers, the chart's refusal, 10: a row shorter than the count of positions, or 11 at a
-// line.
+// What Reading answers: the first line's numbers, or a refusal: the chart's, 10 where a row is shorter than the count of positions, or
+// 11.
 pub enum Reading {
-    Rows(Summary),
+    Rows(FirstLine),
     Refused(Refusal),
-    Short,
-    Malformed(usize),
 }
 
 // Reads a plate into three lent rows. What lies past the last position's number stays, and on a refusal everything does.
@@ -28,20 +26,20 @@ pub fn read_plate(
     ensures { λ r. ⌜ ReadingIs (now (text .entry)) (now (plate .entry)) (now (values .entry)) (now (values .exit)) (now (choices .entry)) (now (choices .exit)) (now (steps .entry)) (now (steps .exit)) r ⌝ }
 {
     match examine(text) {
-        Examination::Refused(r) => Reading::Refused(r),
+        Examination::Refused(r) => Reading::Refused(Refusal::Chart(r)),
         Examination::Accepted(chart) => {
             let n = chart.positions;
             if values.len() < n {
-                return Reading::Short;
+                return Reading::Refused(Refusal::Short);
             }
             if choices.len() < n {
-                return Reading::Short;
+                return Reading::Refused(Refusal::Short);
             }
             if steps.len() < n {
-                return Reading::Short;
+                return Reading::Refused(Refusal::Short);
             }
             match examine_plate(n, plate) {
-                Form::Bad(line) => Reading::Malformed(line),
+                Form::Bad(line) => Reading::Refused(Refusal::Plate(line)),
                 Form::Good => Reading::Rows(read_rows(n, plate, values, choices, steps)),
             }
         }

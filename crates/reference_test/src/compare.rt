@@ -27,11 +27,12 @@ use crate::text::Page;
 use crate::text::part;
 use crate::text::write_chart;
 use crate::text::write_plate;
-use audit::Numbers;
+use checking::Checked;
 use reading::Reading;
 use reading::read_plate;
-use value::valuing::Valued;
-use value::valuing::value_chart;
+use refusal::Numbers;
+use valuing::Valued;
+use valuing::value_chart;
 use weighing::Weighed;
 use weighing::weigh_chart;
 use writing::Written;
@@ -185,7 +186,6 @@ fn rounds_of(answer: Valued) -> usize {
     match answer {
         Valued::Rounds(r) => wide(r),
         Valued::Refused(_) => 99999,
-        Valued::Short => 99999,
     }
 }
 
@@ -204,7 +204,6 @@ fn length_of(answer: Written) -> usize {
     match answer {
         Written::Length(k) => k,
         Written::Refused(_) => 99999,
-        Written::Short => 99999,
     }
 }
 
@@ -236,10 +235,18 @@ fn same_header(table: &Table, answer: Reading) -> bool {
 fn compare_check(chart: &Chart, table: &Table, text: &[u8], tally: &mut Tally) {
     let mut page = [b'#'; 65536];
     let size = write_plate(&mut page, table, positions(chart));
-    let answer = audit::check(text, part(&page, size)).numbers();
+    let answer = numbers_of(checking::check(text, part(&page, size)));
     let fault = first_fault(chart, table);
     add(tally, ACCEPTED + fault.condition % 7, 1);
     expect(same_answer(answer, fault), b"checking", text, tally);
+}
+
+// An answer in the refusal table's numbers.
+fn numbers_of(answer: Checked) -> Numbers {
+    match answer {
+        Checked::Accepted => Numbers::none(),
+        Checked::Refused(r) => r.numbers(),
+    }
 }
 
 // Accepted, or 14 with position and condition.
@@ -412,7 +419,5 @@ fn is_done(answer: Weighed) -> bool {
     match answer {
         Weighed::Done => true,
         Weighed::Refused(_) => false,
-        Weighed::Short => false,
-        Weighed::Choice => false,
     }
 }

@@ -1,9 +1,9 @@
-// A chart's refusals (document 01, "Refusal table", 1 to 9), with their numbers and lines.
+// The refusal table (document 01, "Refusal table"): every refusal of every job, and the numbers that each gives.
 ghost use mathlib.Core.Path.{_≡_};
-ghost use Rattle.refusal.specs.Numbers.{refusalNumber, refusalLine};
+ghost use Rattle.refusal.specs.Numbers.{misdrawnLine, misdrawnNumber, noNumbers, numbersOf, refusalCondition, refusalLine, refusalNumber, refusalPosition};
 
-// Refusals 1 to 9 in the table's order, each with its line where that is not always line 0.
-pub enum Refusal {
+// Refusals 1 to 9 in the table's order, which a chart alone can give, each with its line where that is not always line 0.
+pub enum Misdrawn {
     Length,
     Form(usize),
     Limits,
@@ -15,38 +15,146 @@ pub enum Refusal {
     NoMeant(usize),
 }
 
-impl Refusal {
-    // The number in document 01's table.
-    pub fn number(self) -> u32
-        ensures { λ r. ⌜ r ≡ refusalNumber self ⌝ }
+// The table: a chart's refusal, then 10 to 16. 11 has the plate's line, 14 the fault's position and condition.
+pub enum Refusal {
+    Chart(Misdrawn),
+    Short,
+    Plate(usize),
+    Choice,
+    Position,
+    Fault(usize, u8),
+    Move,
+    Seen,
+}
+
+// A refusal in the table's numbers, 0 where it has none; all are 0 where nothing is refused.
+#[repr(C)]
+pub struct Numbers {
+    pub number: u32,
+    pub line: usize,
+    pub position: usize,
+    pub condition: u8,
+}
+
+impl Misdrawn {
+    // The number in the table.
+    fn number(self) -> u32
+        ensures { λ r. ⌜ r ≡ misdrawnNumber self ⌝ }
     {
         match self {
-            Refusal::Length => 1,
-            Refusal::Form(_) => 2,
-            Refusal::Limits => 3,
-            Refusal::Count => 4,
-            Refusal::Sequence(_) => 5,
-            Refusal::Endpoint(_) => 6,
-            Refusal::Disturbed(_) => 7,
-            Refusal::Order(_) => 8,
-            Refusal::NoMeant(_) => 9,
+            Misdrawn::Length => 1,
+            Misdrawn::Form(_) => 2,
+            Misdrawn::Limits => 3,
+            Misdrawn::Count => 4,
+            Misdrawn::Sequence(_) => 5,
+            Misdrawn::Endpoint(_) => 6,
+            Misdrawn::Disturbed(_) => 7,
+            Misdrawn::Order(_) => 8,
+            Misdrawn::NoMeant(_) => 9,
         }
     }
 
     // The line, counted from 0.
-    pub fn line(self) -> usize
+    fn line(self) -> usize
+        ensures { λ r. ⌜ r ≡ misdrawnLine self ⌝ }
+    {
+        match self {
+            Misdrawn::Length => 0,
+            Misdrawn::Form(line) => line,
+            Misdrawn::Limits => 0,
+            Misdrawn::Count => 0,
+            Misdrawn::Sequence(line) => line,
+            Misdrawn::Endpoint(line) => line,
+            Misdrawn::Disturbed(line) => line,
+            Misdrawn::Order(line) => line,
+            Misdrawn::NoMeant(line) => line,
+        }
+    }
+}
+
+impl Refusal {
+    pub fn numbers(self) -> Numbers
+        ensures { λ r. ⌜ r ≡ numbersOf self ⌝ }
+    {
+        Numbers {
+            number: self.number(),
+            line: self.line(),
+            position: self.position(),
+            condition: self.condition(),
+        }
+    }
+
+    fn number(self) -> u32
+        ensures { λ r. ⌜ r ≡ refusalNumber self ⌝ }
+    {
+        match self {
+            Refusal::Chart(m) => m.number(),
+            Refusal::Short => 10,
+            Refusal::Plate(_) => 11,
+            Refusal::Choice => 12,
+            Refusal::Position => 13,
+            Refusal::Fault(_, _) => 14,
+            Refusal::Move => 15,
+            Refusal::Seen => 16,
+        }
+    }
+
+    fn line(self) -> usize
         ensures { λ r. ⌜ r ≡ refusalLine self ⌝ }
     {
         match self {
-            Refusal::Length => 0,
-            Refusal::Form(line) => line,
-            Refusal::Limits => 0,
-            Refusal::Count => 0,
-            Refusal::Sequence(line) => line,
-            Refusal::Endpoint(line) => line,
-            Refusal::Disturbed(line) => line,
-            Refusal::Order(line) => line,
-            Refusal::NoMeant(line) => line,
+            Refusal::Chart(m) => m.line(),
+            Refusal::Short => 0,
+            Refusal::Plate(line) => line,
+            Refusal::Choice => 0,
+            Refusal::Position => 0,
+            Refusal::Fault(_, _) => 0,
+            Refusal::Move => 0,
+            Refusal::Seen => 0,
+        }
+    }
+
+    fn position(self) -> usize
+        ensures { λ r. ⌜ r ≡ refusalPosition self ⌝ }
+    {
+        match self {
+            Refusal::Chart(_) => 0,
+            Refusal::Short => 0,
+            Refusal::Plate(_) => 0,
+            Refusal::Choice => 0,
+            Refusal::Position => 0,
+            Refusal::Fault(position, _) => position,
+            Refusal::Move => 0,
+            Refusal::Seen => 0,
+        }
+    }
+
+    fn condition(self) -> u8
+        ensures { λ r. ⌜ r ≡ refusalCondition self ⌝ }
+    {
+        match self {
+            Refusal::Chart(_) => 0,
+            Refusal::Short => 0,
+            Refusal::Plate(_) => 0,
+            Refusal::Choice => 0,
+            Refusal::Position => 0,
+            Refusal::Fault(_, condition) => condition,
+            Refusal::Move => 0,
+            Refusal::Seen => 0,
+        }
+    }
+}
+
+impl Numbers {
+    // Nothing is refused.
+    pub fn none() -> Self
+        ensures { λ r. ⌜ r ≡ noNumbers ⌝ }
+    {
+        Numbers {
+            number: 0,
+            line: 0,
+            position: 0,
+            condition: 0,
         }
     }
 }

@@ -1,11 +1,14 @@
 // What the program writes for a chart: its plate, or the line of its refusal.
 ghost use Prim.Native.Nat.{_≤_};
 ghost use mathlib.Core.Path.{_≡_};
-ghost use mathlib.Core.List.{_++_};
+ghost use mathlib.Core.List.{[], _∷_, _++_};
 ghost use lib.ListN.{length, drop};
-ghost use Rattle.chart.specs.Meaning.{lineText};
+ghost use Rattle.line.specs.Text.{lineText};
+ghost use Rattle.line.specs.declared.Entry.the-variants.{Number};
 ghost use Rattle.response.specs.Response.{Responded};
-use field::write;
+use line::Entry;
+use line::write_entry;
+use rows::Chart;
 use writing::Written;
 use writing::write_plate;
 
@@ -17,20 +20,20 @@ pub fn respond(text: &[u8], out: &mut [u8]) -> usize
     match write_plate(text, out) {
         Written::Length(k) => k,
         Written::Refused(r) => {
-            write_refusal(r.number(), (r.line() % 100000) as u32, out);
-            12
+            let numbers = r.numbers();
+            write_refusal(numbers.number, (numbers.line % 100000) as u32, out);
+            Chart::LINE
         }
-        Written::Short => 0,
     }
 }
 
 // The line of a refusal into the first 12 bytes of the buffer; the others stay.
 fn write_refusal(number: u32, line: u32, out: &mut [u8])
     requires { ⌜ 12 ≤ length (now out) ⌝ }
-    ensures { λ _. ⌜ now (out .exit) ≡ lineText 82 number line ++ drop 12 (now (out .entry)) ⌝ }
+    ensures { λ _. ⌜ now (out .exit) ≡ lineText 82 (Number number ∷ Number line ∷ []) ++ drop 12 (now (out .entry)) ⌝ }
 {
     out[0] = b'R';
-    write(number, out, 1);
-    write(line, out, 6);
+    write_entry(Entry::Number(number), out, 1);
+    write_entry(Entry::Number(line), out, 6);
     out[11] = b'\n';
 }

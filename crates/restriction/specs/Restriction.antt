@@ -1,13 +1,13 @@
 -- What a row of choices leaves of the moves, as numbers: which moves are chosen or stay, and the moves that stay as rows.
-use Prim.Native.Nat.{ℕ, zero, suc, _+_, _≤_, _<_}
+use Prim.Native.Nat.{ℕ, zero, suc, _+_}
 use mathlib.Core.Path.{_≡_}
-use mathlib.Core.Bool.{Bool, true, false, cond, not, _&&_, _||_}
+use mathlib.Core.Bool.{Bool, cond, not, _&&_, _||_}
 use mathlib.Core.List.{List, [], _∷_, _++_}
-use lib.ListN.{length, getD, set}
+use lib.ListN.{length, getD}
 use lib.Dec.{eqb}
-use Rattle.game.specs.Rows.{RowIs}
-use Rattle.round.specs.RowLaws.{setIf, found, numberAt}
-use Rattle.round.specs.Round.{bit}
+use Rattle.search.specs.Below.{bit}
+use Rattle.rows.specs.Rows.{RowIs}
+use Rattle.rows.specs.Filling.{setIf}
 
 -- the i-th move is a meant move into the choice of the position that it leaves
 unfoldable pub isChosen : (costs froms tos choices : List ℕ) → ℕ → Bool

@@ -3,12 +3,14 @@ ghost use mathlib.Core.Path.{_≡_};
 ghost use mathlib.Core.Bool.{not};
 ghost use Prim.Native.Nat.{_<_, _≤_};
 ghost use lib.ListN.{length, getD};
-ghost use Rattle.game.specs.Summary.{someBelow};
-ghost use Rattle.round.specs.RowLaws.{Noted, numberAt, setIf};
-ghost use Rattle.round.specs.Round.{Within, bit};
+ghost use Rattle.rows.specs.Rows.{Within};
+ghost use Rattle.rows.specs.Numbers.{numberAt};
+ghost use Rattle.rows.specs.Notes.{Noted};
+ghost use Rattle.rows.specs.Filling.{setIf};
+ghost use Rattle.search.specs.Below.{someBelow, bit};
 ghost use Rattle.restriction.specs.Restriction.{Copied, CopiedMove, isChosen, isLegal, moveStays};
-use round::NONE;
-use round::flag_none;
+use rows::NONE;
+use rows::clear_flags;
 
 // Flags the position that the i-th move leaves, if that move is meant and its choice.
 fn flag_chosen_by(
@@ -44,7 +46,7 @@ pub fn flag_chosen(
     requires { ⌜ Within n m (now costs) (now froms) (now tos) × (n ≤ length (now choices)) × (n ≤ length (now flags)) ⌝ }
     ensures { λ _. ⌜ Noted n (numberAt (now (froms .entry))) (isChosen (now (costs .entry)) (now (froms .entry)) (now (tos .entry)) (now (choices .entry))) (λ v. bit) m (now (flags .exit)) ⌝ }
 {
-    flag_none(n, flags);
+    clear_flags(n, flags);
     let mut i: usize = 0;
     while i < m {
         flag_chosen_by(i, costs, froms, tos, choices, flags);

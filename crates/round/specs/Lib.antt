@@ -1,4 +1,3 @@
-pub mod RowLaws
 pub mod Round
 pub mod NoteLaws
 pub mod PlaceLaws

@@ -1,31 +1,15 @@
 -- A round places position by position: the laws of `Placing` for the start and for a turn.
-use Prim.Native.Nat.{ℕ, zero, suc, _+_, _≤_, _<_}
-use native.Mathlib.Numerals.{add-one}
+use Prim.Native.Nat.{ℕ, _+_, _≤_, _<_}
 use native.Mathlib.Nat.{le-refl}
-use native.Mathlib.Omega.{arith}
-use mathlib.Core.Path.{_≡_, refl, sym, ap, subst, _∙_}
-use mathlib.Core.Bool.{Bool, true, false, cond, _&&_}
+use mathlib.Core.Path.{_≡_, refl}
+use mathlib.Core.Bool.{Bool, true, false, cond}
 use mathlib.Core.List.{List}
 use lib.ListN.{length, getD, set}
 use lib.Seq.{set-getD}
 use lib.Dec.{eqb}
-use Rattle.game.specs.Summary.{countBelow}
-use Rattle.round.specs.RowLaws.{filled-next, setIf}
-use Rattle.game.specs.Rows.{Filled}
-use Rattle.game.specs.Filling.{filled-none}
-use Rattle.round.specs.Round.{bit, taken, Placing, PlacingAt}
-
-pub count-next : (p : ℕ → Bool) (i : ℕ) → countBelow p (i + 1) ≡ countBelow p i + bit (p i)
-unfolding countBelow
-count-next p i = rw add-one (ap (λ (x : ℕ). countBelow p i + x) (go (p i)))
-  where
-    go : (b : Bool) → cond b 1 0 ≡ bit b
-    go true = refl
-    go false = refl
-
-pub bit-le : (b : Bool) → bit b ≤ 1
-bit-le true = omega arith
-bit-le false = omega arith
+use Rattle.rows.specs.Filling.{filled-next, setIf, filled-none}
+use Rattle.search.specs.Below.{countBelow, bit, bit-le, count-next}
+use Rattle.round.specs.Round.{taken, Placing, PlacingAt}
 
 -- a round at one position counts one at most
 pub one-at-most : {v : ℕ} {flags : List ℕ} {k s : ℕ} {values steps values′ steps′ : List ℕ} {one : ℕ} → PlacingAt v flags k s values steps values′ steps′ one → one ≤ 1

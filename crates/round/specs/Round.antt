@@ -1,23 +1,16 @@
 -- What a round's functions leave in their rows, as numbers. The laws that make tables of placements of them stand in
 -- HeldLaws.
-use Prim.Native.Nat.{ℕ, _≤_, _<_}
-use native.Mathlib.Omega.{arith}
+use Prim.Native.Nat.{ℕ}
 use mathlib.Core.Path.{_≡_, refl}
-use mathlib.Core.Bool.{Bool, true, false, cond, not, _&&_}
+use mathlib.Core.Bool.{Bool, false, cond, not, _&&_}
 use mathlib.Core.List.{List}
-use lib.ListN.{length, getD}
+use lib.ListN.{getD}
 use lib.Dec.{eqb}
-use Rattle.game.specs.Summary.{countBelow}
-use Rattle.game.specs.Rows.{Filled}
-use Rattle.round.specs.RowLaws.{setIf}
-
-abbrev pub bit : Bool → ℕ
-bit true = 1
-bit false = 0
-
--- 65,535 in the values row: not placed
-abbrev pub free : List ℕ → ℕ → Bool
-free values v = eqb (getD values v 0) 65535
+use Rattle.game.specs.Table.{ofKind}
+use Rattle.rows.specs.Rows.{Filled}
+use Rattle.rows.specs.Numbers.{free}
+use Rattle.rows.specs.Filling.{setIf}
+use Rattle.search.specs.Below.{countBelow, bit}
 
 -- a round takes v: it is flagged, and not placed
 unfoldable pub taken : (flags values : List ℕ) → ℕ → Bool
@@ -34,33 +27,6 @@ pub record PlacingAt (v : ℕ) (flags : List ℕ) (k s : ℕ) (values steps valu
   pub value : values′ ≡ setIf (taken flags values v) v k values
   pub step : steps′ ≡ setIf (taken flags values v) v s steps
   pub counted : count ≡ bit (taken flags values v)
-
--- rows of m moves that join positions below n: no index leaves its row
-pub record Within (n m : ℕ) (costs froms tos : List ℕ) : Type 0 where
-  pub costs-row : m ≤ length costs
-  pub froms-row : m ≤ length froms
-  pub tos-row : m ≤ length tos
-  pub from-inside : (i : ℕ) → i < m → getD froms i 0 < n
-  pub to-inside : (i : ℕ) → i < m → getD tos i 0 < n
-
--- what the work on the i-th move indexes
-pub record AtMove (i : ℕ) (costs froms tos values flags : List ℕ) : Type 0 where
-  pub cost-in : i < length costs
-  pub from-in : i < length froms
-  pub to-in : i < length tos
-  pub value-in : getD tos i 0 < length values
-  pub flag-in : getD froms i 0 < length flags
-
-pub at-move : {n m : ℕ} {costs froms tos : List ℕ} → Within n m costs froms tos → (values flags : List ℕ) → n ≤ length values → n ≤ length flags
-    → (i : ℕ) → i < m → AtMove i costs froms tos values flags
-at-move w values flags l k i h =
-    record {
-      cost-in = omega arith;
-      from-in = omega arith;
-      to-in = omega arith;
-      value-in = omega (arith, w .to-inside i h);
-      flag-in = omega (arith, w .from-inside i h);
-    }
 
 -- the i-th move decides whether the position that it leaves is ready: a meant move, at O into a position that is not
 -- placed, at L into one that is
@@ -79,11 +45,11 @@ readyFlag owners v decided = cond (eqb (getD owners v 0) 0) (bit (not decided)) 
 
 -- the i-th move is a disturbance into value k
 unfoldable pub disturbs : (costs tos values : List ℕ) → ℕ → ℕ → Bool
-disturbs costs tos values k i = eqb (getD costs i 0) 1 && eqb (getD values (getD tos i 0) 0) k
+disturbs costs tos values k i = not (eqb (getD costs i 0) 0) && eqb (getD values (getD tos i 0) 0) k
 
--- the i-th move has this cost, and its target shows what the position that it leaves seeks
-unfoldable pub meets : (cost : ℕ) (seeks shows costs froms tos : List ℕ) → ℕ → Bool
-meets cost seeks shows costs froms tos i = eqb (getD costs i 0) cost && eqb (getD seeks (getD froms i 0) 0) (getD shows (getD tos i 0) 0)
+-- the i-th move is of the kind that is sought, and its target shows what the position that it leaves seeks
+unfoldable pub meets : (meant : Bool) (seeks shows costs froms tos : List ℕ) → ℕ → Bool
+meets meant seeks shows costs froms tos i = ofKind meant (getD costs i 0) && eqb (getD seeks (getD froms i 0) 0) (getD shows (getD tos i 0) 0)
 
 pub ready-flag-first : (owners : List ℕ) (v : ℕ) → readyFlag owners v false ≡ firstFlag (getD owners v 0)
 unfolding readyFlag firstFlag

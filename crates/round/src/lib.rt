@@ -4,24 +4,14 @@ ghost use Prim.Native.Nat.{_<_, _≤_};
 ghost use mathlib.Core.Bool.{false, cond, not, _&&_};
 ghost use lib.ListN.{length, getD, set};
 ghost use lib.Dec.{eqb};
-ghost use Rattle.game.specs.Rows.{Filled, RowIs};
-ghost use Rattle.round.specs.RowLaws.{Noted, numberAt, spotIf};
-ghost use Rattle.round.specs.Round.{AtMove, Placing, PlacingAt, Within, bit, decides, disturbs, firstFlag, meets, readyFlag};
-
-// The value and the step of a position that is not placed, and of one that never is: "ever" and the dash.
-pub const NONE: u16 = 65535;
-
-// The first n numbers become NONE. The bound keeps them within the row.
-pub fn clear(n: usize, row: &mut [u16])
-    requires { ⌜ n ≤ length (now row) ⌝ }
-    ensures { λ _. ⌜ Filled (now (row .entry)) (now (row .exit)) n (λ v. 65535) ⌝ }
-{
-    let mut v: usize = 0;
-    while v < n {
-        row[v] = NONE;
-        v += 1;
-    }
-}
+ghost use Rattle.search.specs.Below.{bit};
+ghost use Rattle.game.specs.Table.{ofKind};
+ghost use Rattle.rows.specs.Rows.{Filled, RowIs, AtMove, Within};
+ghost use Rattle.rows.specs.Numbers.{numberAt};
+ghost use Rattle.rows.specs.Notes.{Noted, spotIf, found};
+ghost use Rattle.round.specs.Round.{Placing, PlacingAt, decides, disturbs, firstFlag, meets, readyFlag};
+use rows::Chart;
+use rows::NONE;
 
 // 1 if a round takes a position with this flag and this value, else 0.
 fn takes(flag: u8, value: u16) -> usize
@@ -82,18 +72,6 @@ fn flag_owners(n: usize, owners: &[u8], flags: &mut [u8])
     }
 }
 
-// Every flag is 0: no move has been seen. The bound keeps the n flags within the row.
-pub fn flag_none(n: usize, flags: &mut [u8])
-    requires { ⌜ n ≤ length (now flags) ⌝ }
-    ensures { λ _. ⌜ Filled (now (flags .entry)) (now (flags .exit)) n (λ v. 0) ⌝ }
-{
-    let mut v: usize = 0;
-    while v < n {
-        flags[v] = 0;
-        v += 1;
-    }
-}
-
 // 1 if the two are the same, else 0.
 fn same(x: u16, k: u16) -> u8
     ensures { λ r. ⌜ r ≡ bit (eqb x k) ⌝ }
@@ -113,21 +91,23 @@ fn show(n: usize, k: u16, values: &[u16], shows: &mut [u8])
     }
 }
 
-// Where a move leaves its note: at the position that it leaves if it has the cost and meets what is sought, else past all positions.
-fn spot(has: u8, cost: u8, seeks: u8, shows: u8, from: usize) -> usize
-    ensures { λ r. ⌜ r ≡ spotIf (eqb has cost && eqb seeks shows) from ⌝ }
+// Where a move leaves its note: at the position that it leaves if it is of the kind sought, meant or a disturbance, and meets what
+// is sought, else past all positions.
+fn spot(cost: u8, meant: bool, seeks: u8, shows: u8, from: usize) -> usize
+    ensures { λ r. ⌜ r ≡ spotIf (ofKind meant cost && eqb seeks shows) from ⌝ }
 {
-    if has != cost {
-        return 512;
+    if ((cost == 0) == meant) & (seeks == shows) {
+        from
+    } else {
+        Chart::POSITIONS
     }
-    if seeks == shows { from } else { 512 }
 }
 
-// Notes the position that the i-th move leaves, if the move has the cost and its target shows what the position seeks. Any other
-// move notes a place that nobody reads: the test goes either way at random, and a jump on it would cost more than the rest.
+// Notes the position that the i-th move leaves, if the move is of the kind sought and its target shows what the position seeks. Any
+// other move notes a place that nobody reads: the test goes either way at random, and a jump on it would cost more than the rest.
 fn note_by(
     i: usize,
-    cost: u8,
+    meant: bool,
     seeks: &[u8],
     shows: &[u8],
     costs: &[u8],
@@ -136,18 +116,18 @@ fn note_by(
     found: &mut [u8],
 )
     requires { ⌜ AtMove i (now costs) (now froms) (now tos) (now shows) (now seeks) × (getD (now froms) i 0 < 512) × (512 < length (now found)) ⌝ }
-    ensures { λ _. ⌜ now (found .exit) ≡ set (now (found .entry)) (spotIf (meets cost (now (seeks .entry)) (now (shows .entry)) (now (costs .entry)) (now (froms .entry)) (now (tos .entry)) i) (getD (now (froms .entry)) i 0)) 1 ⌝ }
+    ensures { λ _. ⌜ now (found .exit) ≡ set (now (found .entry)) (spotIf (meets meant (now (seeks .entry)) (now (shows .entry)) (now (costs .entry)) (now (froms .entry)) (now (tos .entry)) i) (getD (now (froms .entry)) i 0)) 1 ⌝ }
 {
     let from = froms[i] as usize;
     let to = tos[i] as usize;
-    found[spot(costs[i], cost, seeks[from], shows[to], from)] = 1;
+    found[spot(costs[i], meant, seeks[from], shows[to], from)] = 1;
 }
 
 // Notes every position that such a move leaves. No note is there before.
 fn note(
     n: usize,
     m: usize,
-    cost: u8,
+    meant: bool,
     seeks: &[u8],
     shows: &[u8],
     costs: &[u8],
@@ -156,11 +136,11 @@ fn note(
     found: &mut [u8],
 )
     requires { ⌜ Within n m (now costs) (now froms) (now tos) × (n ≤ 512) × (n ≤ length (now seeks)) × (n ≤ length (now shows)) × (512 < length (now found)) × RowIs (now found) n (λ v. 0) ⌝ }
-    ensures { λ _. ⌜ Noted n (numberAt (now (froms .entry))) (meets cost (now (seeks .entry)) (now (shows .entry)) (now (costs .entry)) (now (froms .entry)) (now (tos .entry))) (λ v. bit) m (now (found .exit)) ⌝ }
+    ensures { λ _. ⌜ Noted n (numberAt (now (froms .entry))) (meets meant (now (seeks .entry)) (now (shows .entry)) (now (costs .entry)) (now (froms .entry)) (now (tos .entry))) (λ v. bit) m (now (found .exit)) ⌝ }
 {
     let mut i: usize = 0;
     while i < m {
-        note_by(i, cost, seeks, shows, costs, froms, tos, found);
+        note_by(i, meant, seeks, shows, costs, froms, tos, found);
         i += 1;
     }
 }
@@ -200,12 +180,12 @@ pub fn flag_ready(
     requires { ⌜ Within n m (now costs) (now froms) (now tos) × (n ≤ 512) × (n ≤ length (now owners)) × (n ≤ length (now values)) × (n ≤ length (now flags)) ⌝ }
     ensures { λ _. ⌜ Noted n (numberAt (now (froms .entry))) (decides (now (owners .entry)) (now (costs .entry)) (now (froms .entry)) (now (tos .entry)) (now (values .entry))) (readyFlag (now (owners .entry))) m (now (flags .exit)) ⌝ }
 {
-    let mut firsts = [0u8; 512];
-    let mut shows = [0u8; 512];
-    let mut found = [0u8; 513];
+    let mut firsts = [0u8; Chart::POSITIONS];
+    let mut shows = [0u8; Chart::POSITIONS];
+    let mut found = [0u8; Chart::POSITIONS + 1];
     flag_owners(n, owners, &mut firsts);
     show(n, NONE, values, &mut shows);
-    note(n, m, 0, &firsts, &shows, costs, froms, tos, &mut found);
+    note(n, m, true, &firsts, &shows, costs, froms, tos, &mut found);
     turn(n, &firsts, &found, flags);
 }
 
@@ -223,11 +203,11 @@ pub fn flag_disturbed(
     requires { ⌜ Within n m (now costs) (now froms) (now tos) × (n ≤ 512) × (n ≤ length (now values)) × (n ≤ length (now flags)) ⌝ }
     ensures { λ _. ⌜ Noted n (numberAt (now (froms .entry))) (disturbs (now (costs .entry)) (now (tos .entry)) (now (values .entry)) k) (λ v. bit) m (now (flags .exit)) ⌝ }
 {
-    let firsts = [0u8; 512];
-    let ones = [1u8; 512];
-    let mut shows = [0u8; 512];
-    let mut found = [0u8; 513];
+    let firsts = [0u8; Chart::POSITIONS];
+    let ones = [1u8; Chart::POSITIONS];
+    let mut shows = [0u8; Chart::POSITIONS];
+    let mut found = [0u8; Chart::POSITIONS + 1];
     show(n, k, values, &mut shows);
-    note(n, m, 1, &ones, &shows, costs, froms, tos, &mut found);
+    note(n, m, false, &ones, &shows, costs, froms, tos, &mut found);
     turn(n, &firsts, &found, flags);
 }

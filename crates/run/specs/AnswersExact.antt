@@ -1,6 +1,6 @@
 -- Each answer is given exactly when its condition holds. Forward, by cases on the chart's examination, the plate's form, the two
 -- tests of positions and the kind; backward, the condition settles each of these in turn.
-use Prim.Native.Nat.{ℕ, _+_, _≤_, _<_}
+use Prim.Native.Nat.{ℕ, _+_, _<_}
 use mathlib.Core.Path.{_≡_, refl, ap, subst, _∙_}
 use mathlib.Core.Logic.{_↔_, inl, inr}
 use mathlib.Core.Bool.{Bool, true, false, cond}
@@ -10,32 +10,30 @@ use borrow.Author.Tests.{ltb-true, ltb-false, lt-ltb, le-ltb}
 use Rattle.game.specs.Arena.{size}
 use Rattle.chart.specs.Meaning.{arenaOf}
 use Rattle.chart.specs.Examined.{examined}
-use Rattle.chart.specs.declared.Chart.{Chart}
+use Rattle.rows.specs.declared.Chart.{Chart}
+use Rattle.refusal.specs.declared.Refusal.{Refusal}
+use Rattle.refusal.specs.declared.Refusal.the-variants.{Chart as OfChart, Short, Plate, Choice, Position, Fault, Move, Seen}
 use Rattle.chart.specs.declared.Examination.{Examination}
 use Rattle.chart.specs.declared.Examination.the-variants.{Accepted as Taken, Refused as Turned}
 use Rattle.plate.specs.Exact.{bad-line-exact, form-exact}
 use Rattle.plate.specs.Formed.{formOf}
-use Rattle.plate.specs.Read.{headerIn, valueIn, choiceIn, stepIn}
+use Rattle.plate.specs.Read.{choiceIn}
 use Rattle.plate.specs.declared.Form.{Form as PlateForm}
 use Rattle.plate.specs.declared.Form.the-variants.{Good, Bad}
-use Rattle.verdict.specs.Verdict.{verdictOf}
-use Rattle.audit.specs.Checking.{answerOf, checked}
-use Rattle.audit.specs.Answers.{AnswerIs as AuditIs}
-use Rattle.audit.specs.AnswersExact.{accepted-of, answer-exactly}
-use Rattle.verdict.specs.declared.rows.Verdict.{Verdict}
-use Rattle.verdict.specs.declared.rows.Verdict.the-variants.{Sound, Fault as RowFault}
-use Rattle.audit.specs.declared.Checked.{Checked}
-use Rattle.audit.specs.declared.Checked.the-variants.{Accepted, Refused as Rejected, Form as BadForm, Fault as Faulty}
+use Rattle.checking.specs.Checking.{plateVerdict}
+use Rattle.checking.specs.AnswersExact.{accepted-sound, faulty-at, verdict-means}
+use Rattle.verdict.specs.declared.Verdict.{Verdict}
+use Rattle.verdict.specs.declared.Verdict.the-variants.{Sound, Fault as FaultAt}
 use Rattle.moves.specs.Moves.{moveKind}
-use Rattle.run.specs.Running.{adviceAt, moved, reported, reportedBy, reportedForm, reportedInside, reportedMove, runAt, standing, started, startedBy, unmoved}
-use Rattle.run.specs.Answers.{Moves, Readable, ReportIs, StartIs}
+use Rattle.run.specs.Running.{moved, reported, reportedBy, reportedForm, reportedInside, reportedMove, standing, started, startedBy, startedForm, startedInside, startedVerdict, unmoved}
+use Rattle.run.specs.Answers.{Moves, Readable, ReportIs, ReportRefused, StartIs, StartRefused}
 use Rattle.moves.specs.declared.Kind.{Kind}
 use Rattle.moves.specs.declared.Kind.the-variants.{Meant, Disturbance, Neither}
 use Rattle.run.specs.declared.Run.{Run}
 use Rattle.run.specs.declared.Started.{Started}
-use Rattle.run.specs.declared.Started.the-variants.{Begun, Refused, Form, Position, Fault}
+use Rattle.run.specs.declared.Started.the-variants.{Begun, Refused}
 use Rattle.run.specs.declared.Answer.{Answer}
-use Rattle.run.specs.declared.Answer.the-variants.{Taken as Went, Refused as Declined, Form as Malformed, Position as Outside, Move, Count}
+use Rattle.run.specs.declared.Answer.the-variants.{Taken as Went, Refused as Declined}
 use Rattle.run.specs.declared.Reported.{Reported}
 
 module _ (run : Run) (text plate : List ℕ) (to : ℕ) where
@@ -57,19 +55,19 @@ module _ (run : Run) (text plate : List ℕ) (to : ℕ) where
       of-kind Neither e = (moves Neither e, refl)
       of-kind Disturbance e = go (ltb (run .seen) 99999) refl
         where
-          go : (b : Bool) → ltb (run .seen) 99999 ≡ b → Is (cond b (standing plate (moved run to (run .seen + 1))) (unmoved run Count))
+          go : (b : Bool) → ltb (run .seen) 99999 ≡ b → Is (cond b (standing plate (moved run to (run .seen + 1))) (unmoved run Seen))
           go true h = (inr (moves Disturbance e, ltb-true (run .seen) 99999 h, refl), refl)
-          go false h = (moves Disturbance e, ltb-false (run .seen) 99999 h, refl)
+          go false h = ((moves Disturbance e, ltb-false (run .seen) 99999 h), refl)
 
     of-form : Is (reportedInside run (arenaOf text) plate to)
     unfolding reportedInside unmoved
     of-form = go (ltb (run .position) (size (arenaOf text))) (ltb to (size (arenaOf text))) refl refl
       where
         go : (p q : Bool) → ltb (run .position) (size (arenaOf text)) ≡ p → ltb to (size (arenaOf text)) ≡ q
-            → Is (cond p (cond q (reportedMove run plate to kind) (unmoved run Outside)) (unmoved run Outside))
+            → Is (cond p (cond q (reportedMove run plate to kind) (unmoved run Position)) (unmoved run Position))
         go true true h k = of-kind (ltb-true _ _ h) (ltb-true _ _ k) kind refl
-        go true false h k = (readable, inr (ltb-false _ _ k), refl)
-        go false q h k = (readable, inl (ltb-false _ _ h), refl)
+        go true false h k = ((readable, inr (ltb-false _ _ k)), refl)
+        go false q h k = ((readable, inl (ltb-false _ _ h)), refl)
 
   of-chart : (chart : Chart) → examined text ≡ Taken chart → (f : PlateForm) → formOf (chart .positions) plate ≡ f → Is (reportedForm run (arenaOf text) plate to f)
   unfolding reportedForm unmoved
@@ -96,20 +94,27 @@ module _ (run : Run) (text plate : List ℕ) (to : ℕ) where
       readable-report (w .readable)
       ∙ rw (lt-ltb (run .position) (size (arenaOf text)) (w .own), lt-ltb to (size (arenaOf text)) (w .inside)) (ap (reportedMove run plate to) (w .kind))
 
-  from : (after : Run) (r : Answer) → ReportIs run text plate to after r → reported run text plate to ≡ record { run = after; answer = r }
-  unfolding reported reportedBy reportedForm reportedInside reportedMove standing unmoved moved
-  from after (Went advice) (inl (w, e), z) = moved-report Meant w ∙ rw (e, z)
-  from after (Went advice) (inr (w, l, e), z) = moved-report Disturbance w ∙ rw (lt-ltb (run .seen) 99999 l, e, z)
-  from after (Declined r) (h, e) = rw (h, e)
-  from after (Malformed line) (w, e) = rw (w .taken, bad-line-exact (w .chart .positions) line plate .1 (w .bad), e)
-  from after Outside (w, inl l, e) = readable-report w ∙ rw (le-ltb (run .position) (size (arenaOf text)) l, e)
-  from after Outside (w, inr l, e) = readable-report w ∙ rw e (go (ltb (run .position) (size (arenaOf text))))
+  refusal-from : (x : Refusal) → ReportRefused run text plate to x → reported run text plate to ≡ unmoved run x
+  unfolding reported reportedBy reportedForm reportedInside reportedMove
+  refusal-from (OfChart r) h = rw h
+  refusal-from (Plate line) w = rw (w .taken, bad-line-exact (w .chart .positions) line plate .1 (w .bad))
+  refusal-from Position (w, inl l) = readable-report w ∙ rw (le-ltb (run .position) (size (arenaOf text)) l)
+  refusal-from Position (w, inr l) = readable-report w ∙ go (ltb (run .position) (size (arenaOf text)))
     where
-      go : (b : Bool) → cond b (cond (ltb to (size (arenaOf text))) (reportedMove run plate to kind) (unmoved run Outside)) (unmoved run Outside) ≡ unmoved run Outside
+      go : (b : Bool) → cond b (cond (ltb to (size (arenaOf text))) (reportedMove run plate to kind) (unmoved run Position)) (unmoved run Position) ≡ unmoved run Position
       go true = rw (le-ltb to (size (arenaOf text)) l)
       go false = refl
-  from after Move (w, e) = moved-report Neither w ∙ rw e
-  from after Count (w, l, e) = moved-report Disturbance w ∙ rw (le-ltb (run .seen) 99999 l, e)
+  refusal-from Move w = moved-report Neither w
+  refusal-from Seen (w, l) = moved-report Disturbance w ∙ rw (le-ltb (run .seen) 99999 l)
+  refusal-from Short is = absurd is
+  refusal-from Choice is = absurd is
+  refusal-from (Fault v c) is = absurd is
+
+  from : (after : Run) (r : Answer) → ReportIs run text plate to after r → reported run text plate to ≡ record { run = after; answer = r }
+  unfolding reportedMove standing unmoved moved
+  from after (Went advice) (inl (w, e), z) = moved-report Meant w ∙ rw (e, z)
+  from after (Went advice) (inr (w, l, e), z) = moved-report Disturbance w ∙ rw (lt-ltb (run .seen) 99999 l, e, z)
+  from after (Declined x) (h, e) = refusal-from x h ∙ rw e
 
   pub report-exactly : (after : Run) (r : Answer) → (reported run text plate to ≡ record { run = after; answer = r }) ↔ ReportIs run text plate to after r
   report-exactly after r = (
@@ -117,45 +122,72 @@ module _ (run : Run) (text plate : List ℕ) (to : ℕ) where
     from after r,
   )
 
--- A start, by the exact answers of Checking
+-- A start
 module _ (text plate : List ℕ) (position : ℕ) where
   abbrev n : ℕ
   n = size (arenaOf text)
 
-  start-of : (x : Checked) → AuditIs text plate x → StartIs text plate position (startedBy plate position n x)
-  unfolding startedBy
-  start-of (Rejected r) is = is
-  start-of (BadForm line) is = is
-  start-of (Faulty v c) is = go (ltb position n) refl
-    where
-      go : (b : Bool) → ltb position n ≡ b → StartIs text plate position (cond b (Fault v c) Position)
-      go true h = (is, ltb-true position n h)
-      go false h = (record { chart = is .chart; taken = is .taken; form = is .form }, ltb-false position n h)
-  start-of Accepted is = go (ltb position n) refl
-    where
-      go : (b : Bool) → ltb position n ≡ b → StartIs text plate position (cond b (Begun (runAt plate position) (adviceAt plate position)) Position)
-      go true h = (is, ltb-true position n h, refl, refl)
-      go false h = (record { chart = is .chart; taken = is .taken; form = is .form }, ltb-false position n h)
+  abbrev verdict : Verdict
+  verdict = plateVerdict (arenaOf text) plate
 
-  -- what Checking answers to a readable plate is no refusal up to 11
-  outside : n ≤ position → (r : Verdict) → startedBy plate position n (answerOf r) ≡ Position
+  -- forward
+  module _ (w : Readable text plate) where
+    begun-or-faulty : position < n → (r : Verdict) → verdict ≡ r → StartIs text plate position (startedVerdict plate position r)
+    unfolding startedVerdict
+    begun-or-faulty l Sound e = (verdict-means text plate (w .chart) (w .taken) (w .form) Sound e, l, refl, refl)
+    begun-or-faulty l (FaultAt v c) e = (verdict-means text plate (w .chart) (w .taken) (w .form) (FaultAt v c) e, l)
+
+    start-formed : StartIs text plate position (startedInside (arenaOf text) plate position)
+    unfolding startedInside
+    start-formed = go (ltb position n) refl
+      where
+        go : (b : Bool) → ltb position n ≡ b → StartIs text plate position (cond b (startedVerdict plate position verdict) (Refused Position))
+        go true h = begun-or-faulty (ltb-true position n h) verdict refl
+        go false h = (w, ltb-false position n h)
+
+  start-of-form : (chart : Chart) → examined text ≡ Taken chart → (f : PlateForm) → formOf (chart .positions) plate ≡ f
+      → StartIs text plate position (startedForm (arenaOf text) plate position f)
+  unfolding startedForm
+  start-of-form chart e Good h = start-formed (record { chart = chart; taken = e; form = form-exact (chart .positions) plate .0 h })
+  start-of-form chart e (Bad line) h = record { chart = chart; taken = e; bad = bad-line-exact (chart .positions) line plate .0 h }
+
+  start-of-text : (x : Examination) → examined text ≡ x → StartIs text plate position (startedBy text plate position x)
   unfolding startedBy
-  outside l Sound = rw (le-ltb position n l)
-  outside l (RowFault v c) = rw (le-ltb position n l)
+  start-of-text (Turned r) e = e
+  start-of-text (Taken chart) e = start-of-form chart e (formOf (chart .positions) plate) refl
+
+  start-answered : StartIs text plate position (started text plate position)
+  unfolding started
+  start-answered = start-of-text (examined text) refl
+
+  -- backward
+  readable-start : Readable text plate → started text plate position ≡ startedInside (arenaOf text) plate position
+  unfolding started startedBy startedForm
+  readable-start w = rw (w .taken, form-exact (w .chart .positions) plate .1 (w .form))
+
+  inside-start : Readable text plate → position < n → (r : Verdict) → verdict ≡ r → started text plate position ≡ startedVerdict plate position r
+  unfolding startedInside
+  inside-start w l r e = readable-start w ∙ rw (lt-ltb position n l, e)
+
+  start-refusal : (x : Refusal) → StartRefused text plate position x → started text plate position ≡ Refused x
+  unfolding started startedBy startedForm startedInside startedVerdict
+  start-refusal (OfChart r) h = rw h
+  start-refusal (Plate line) w = rw (w .taken, bad-line-exact (w .chart .positions) line plate .1 (w .bad))
+  start-refusal Position (w, l) = readable-start w ∙ rw (le-ltb position n l)
+  start-refusal (Fault v c) (is, l) = inside-start (record { chart = is .chart; taken = is .taken; form = is .form }) l (FaultAt v c) (faulty-at text plate v c is)
+  start-refusal Short is = absurd is
+  start-refusal Choice is = absurd is
+  start-refusal Move is = absurd is
+  start-refusal Seen is = absurd is
 
   start-from : (r : Started) → StartIs text plate position r → started text plate position ≡ r
-  unfolding started startedBy
-  start-from (Begun run advice) (is, l, e, z) = rw (answer-exactly text plate Accepted .1 is, lt-ltb position n l, e, z)
-  start-from (Refused r) is = rw (answer-exactly text plate (Rejected r) .1 is)
-  start-from (Form line) is = rw (answer-exactly text plate (BadForm line) .1 is)
-  start-from (Fault v c) (is, l) = rw (answer-exactly text plate (Faulty v c) .1 is, lt-ltb position n l)
-  start-from Position (w, l) =
-      let r = verdictOf (arenaOf text) (valueIn plate) (choiceIn plate) (stepIn plate) (headerIn plate) in
-      rw (accepted-of text plate (w .chart) (w .taken) (w .form) r refl) (outside l r)
+  unfolding startedVerdict
+  start-from (Begun run advice) (is, l, e, z) =
+      inside-start (record { chart = is .chart; taken = is .taken; form = is .form }) l Sound (accepted-sound text plate is) ∙ rw (e, z)
+  start-from (Refused x) is = start-refusal x is
 
   pub start-exactly : (r : Started) → (started text plate position ≡ r) ↔ StartIs text plate position r
-  unfolding started
   start-exactly r = (
-    λ e. subst (StartIs text plate position) e (start-of (checked text plate) (answer-exactly text plate (checked text plate) .0 refl)),
+    λ e. subst (StartIs text plate position) e start-answered,
     start-from r,
   )

@@ -7,9 +7,10 @@ use mathlib.Core.Path.{_≡_, refl, sym, ap, subst}
 use mathlib.Core.Bool.{Bool, true, false, cond}
 use mathlib.Core.List.{List, [], _∷_}
 use lib.Dec.{ltb}
-use borrow.Author.Tests.{ltb-true}
-use Rattle.game.specs.Value.{Value, fin, valueOf, _≼_, _≺_, _⊕_}
-use Rattle.game.specs.ValueLaws.{⊕zero, ≡→≼, value-of-number}
+use Rattle.rows.specs.Numbers.{valueOf}
+use Rattle.rows.specs.NumberLaws.{value-of-number}
+use Rattle.game.specs.Value.{Value, fin, _≼_, _≺_, _⊕_}
+use Rattle.game.specs.ValueLaws.{⊕zero, ≡→≼}
 use Rattle.game.specs.Arena.{Arena, size, ownerAt, WellFormed, Meant as Meant′, Disturbance as Disturbance′}
 use Rattle.game.specs.Play.{Trail, still, meant, disturbed, last, cost, Allows, targetOf, Play, Legal, positional}
 use Rattle.game.specs.PlayLaws.{disturbance-costs-one, positional-pick, stays-inside}
@@ -19,6 +20,7 @@ use Rattle.game.specs.Holding.{choices-keep, chosen-move-holds, disturbance-hol
 use Rattle.chart.specs.Meaning.{arenaOf}
 use Rattle.chart.specs.Examined.{examined}
 use Rattle.chart.specs.Accepted.{accepted-chartable, accepted-size, accepted-few}
+use Rattle.refusal.specs.declared.Refusal.the-variants.{Position, Seen}
 use Rattle.chart.specs.declared.Examination.{Examination}
 use Rattle.chart.specs.declared.Examination.the-variants.{Accepted as Taken, Refused as Turned}
 use Rattle.plate.specs.Formed.{formOf}
@@ -27,22 +29,19 @@ use Rattle.plate.specs.RoundTrip.{read-in-range}
 use Rattle.plate.specs.Read.{valueIn, choiceIn, stepIn}
 use Rattle.plate.specs.declared.Form.{Form as PlateForm}
 use Rattle.plate.specs.declared.Form.the-variants.{Good, Bad}
-use Rattle.audit.specs.Checking.{checked}
-use Rattle.audit.specs.Answers.{AcceptedIs}
-use Rattle.audit.specs.AnswersExact.{answer-exactly}
-use Rattle.audit.specs.declared.Checked.{Checked}
-use Rattle.audit.specs.declared.Checked.the-variants.{Accepted, Refused as Rejected, Form as BadForm, Fault as Faulty}
+use Rattle.checking.specs.Answers.{AcceptedIs}
 use Rattle.moves.specs.Moves.{moveKind}
 use Rattle.moves.specs.MoveLaws.{meant-follows, disturbance-follows}
-use Rattle.run.specs.Running.{adviceAt, moved, reported, reportedBy, reportedForm, reportedInside, reportedMove, runAt, standing, started, startedBy, unmoved}
+use Rattle.run.specs.Running.{moved, reported, reportedBy, reportedForm, reportedInside, reportedMove, runAt, standing, started, unmoved}
+use Rattle.run.specs.Answers.{StartIs}
+use Rattle.run.specs.AnswersExact.{start-exactly}
 use Rattle.run.specs.Following.{Follows, grown, runAfter, trailAfter, trailWith}
 use Rattle.moves.specs.declared.Kind.{Kind}
 use Rattle.moves.specs.declared.Kind.the-variants.{Meant, Disturbance, Neither}
 use Rattle.run.specs.declared.Run.{Run}
 use Rattle.run.specs.declared.Advice.{Advice}
-use Rattle.run.specs.declared.Answer.the-variants.{Position, Count}
 use Rattle.run.specs.declared.Reported.{Reported}
-use Rattle.run.specs.declared.Started.the-variants.{Begun, Fault, Position as Outside}
+use Rattle.run.specs.declared.Started.the-variants.{Begun}
 
 -- What one report does to the run, and to a trail: nothing, or it adds a meant move or a disturbance that may follow
 pub data Step (text plate : List ℕ) (run : Run) (to : ℕ) (t : Trail) : Run → Trail → Type 0 where
@@ -63,8 +62,8 @@ module _ (text plate : List ℕ) (run : Run) (to : ℕ) (t : Trail) where
   moves Meant e = went e
   moves Disturbance e = go (ltb (run .seen) 99999)
     where
-      go : (b : Bool) → Step text plate run to t (cond b (standing plate (moved run to (run .seen + 1))) (unmoved run Count) .run)
-          (grown (cond b (standing plate (moved run to (run .seen + 1))) (unmoved run Count) .answer) Disturbance to t)
+      go : (b : Bool) → Step text plate run to t (cond b (standing plate (moved run to (run .seen + 1))) (unmoved run Seen) .run)
+          (grown (cond b (standing plate (moved run to (run .seen + 1))) (unmoved run Seen) .answer) Disturbance to t)
       go true = pushed e
       go false = refused
   moves Neither e = refused
@@ -104,7 +103,7 @@ module _ (text plate : List ℕ) (run : Run) (to : ℕ) (x : Value) (at : Certif
   step-holds (pushed e) =
       let d = disturbance-follows (arenaOf text) (choiceIn plate (run .position)) (run .position) to e in
       rw (disturbance-costs-one (arenaOf text) (run .position) to) at
-      (disturbance-holds (arenaOf text) (valueIn plate) (choiceIn plate) (stepIn plate) (run .position) to (run .seen) x at (d .1) (d .0) h)
+      (disturbance-holds (arenaOf text) (valueIn plate) (choiceIn plate) (stepIn plate) (run .position) to (run .seen) x at d h)
 
   pub report-holds : x ≼ valueIn plate (reported run text plate to .run .position) ⊕ reported run text plate to .run .seen
   report-holds = step-holds (report-steps text plate run to still)
@@ -153,7 +152,7 @@ module _ (text plate : List ℕ) (is : AcceptedIs text plate) (legal : Legal (ar
       refl (f .counts) (f .began) (step-holds text plate run to (valueOf (run .initial)) (here run t f) (f .holds) {t = t} (went e))
   followed run to t f (pushed e) =
       let d = disturbance-follows a (choiceIn plate (run .position)) (run .position) to e in
-      follows (moved run to (run .seen + 1)) (disturbed t to) (f .play, subst (λ (v : ℕ). Disturbance′ a v to) (f .stands) (d .0)) refl
+      follows (moved run to (run .seen + 1)) (disturbed t to) (f .play, subst (λ (v : ℕ). Disturbance′ a v to) (f .stands) d) refl
       (rw (disturbance-costs-one a (last position t) to) (ap (λ (s : ℕ). s + 1) (f .counts))) (f .began)
       (step-holds text plate run to (valueOf (run .initial)) (here run t f) (f .holds) {t = t} (pushed e))
 
@@ -175,39 +174,19 @@ module _ (text plate : List ℕ) (is : AcceptedIs text plate) (legal : Legal (ar
       let began = value-of-number (valueIn plate position) (below-fits 512 (valueIn plate position) (omega arith) range) in
       follows (runAt plate position) still inside refl refl began (rw (⊕zero (valueIn plate position)) (≡→≼ _ _ began))
 
--- what a start that is taken says
+-- a start that is taken: the exact condition of that answer
 module _ (text plate : List ℕ) (position : ℕ) (run : Run) (advice : Advice) where
-  begun : started text plate position ≡ Begun run advice → (checked text plate ≡ Accepted) × (position < size (arenaOf text)) × (run ≡ runAt plate position)
-  unfolding started startedBy
-  begun = go (checked text plate) refl
-    where
-      in-range : (b : Bool) → ltb position (size (arenaOf text)) ≡ b → cond b (Begun (runAt plate position) (adviceAt plate position)) Outside ≡ Begun run advice
-          → (position < size (arenaOf text)) × (run ≡ runAt plate position)
-      in-range true h e = (ltb-true position (size (arenaOf text)) h, cc)
-      in-range false h e = let z : _≡_ {A = ℕ} 0 1 = cc in absurd (omega arith)
-
-      no-fault : (v c : ℕ) (b : Bool) → cond b (Fault v c) Outside ≡ Begun run advice → ⊥
-      no-fault v c true e = let z : _≡_ {A = ℕ} 0 1 = cc in absurd (omega arith)
-      no-fault v c false e = let z : _≡_ {A = ℕ} 0 1 = cc in absurd (omega arith)
-
-      go : (x : Checked) → checked text plate ≡ x → startedBy plate position (size (arenaOf text)) x ≡ Begun run advice
-          → (checked text plate ≡ Accepted) × (position < size (arenaOf text)) × (run ≡ runAt plate position)
-      go Accepted z e = let w = in-range (ltb position (size (arenaOf text))) refl e in (z, w .0, w .1)
-      go (Rejected r) z e = let y : _≡_ {A = ℕ} 0 1 = cc in absurd (omega arith)
-      go (BadForm line) z e = let y : _≡_ {A = ℕ} 0 1 = cc in absurd (omega arith)
-      go (Faulty v c) z e = absurd (no-fault v c (ltb position (size (arenaOf text))) e)
+  begun : started text plate position ≡ Begun run advice → StartIs text plate position (Begun run advice)
+  begun = start-exactly text plate position (Begun run advice) .0
 
   module _ (e : started text plate position ≡ Begun run advice) where
-    accepted : AcceptedIs text plate
-    accepted = answer-exactly text plate Accepted .0 (begun e .0)
-
     -- the plate's choices are those of a controller
     pub begun-is-legal : Legal (arenaOf text) (choiceIn plate)
-    begun-is-legal = certificate-is-legal (arenaOf text) (valueIn plate) (choiceIn plate) (stepIn plate) (accepted .certificate)
+    begun-is-legal = certificate-is-legal (arenaOf text) (valueIn plate) (choiceIn plate) (stepIn plate) (begun e .0 .certificate)
 
     -- any row of reports is a play of the plate's controller, in step with the run
     pub run-follows-its-controller : (legal : Legal (arenaOf text) (choiceIn plate)) (tos : List ℕ)
         → Follows text plate legal position (runAfter text plate run tos) (trailAfter text plate run still tos)
     run-follows-its-controller legal tos =
-        let f = first text plate accepted legal position (begun e .1) in
-        all-followed text plate accepted legal position tos run still (subst (λ (r : Run). Follows text plate legal position r still) (sym (begun e .2)) f)
+        let f = first text plate (begun e .0) legal position (begun e .1) in
+        all-followed text plate (begun e .0) legal position tos run still (subst (λ (r : Run). Follows text plate legal position r still) (sym (begun e .2)) f)

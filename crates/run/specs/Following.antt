@@ -3,7 +3,8 @@
 use Prim.Native.Nat.{ℕ}
 use mathlib.Core.Path.{_≡_}
 use mathlib.Core.List.{List, [], _∷_}
-use Rattle.game.specs.Value.{fin, valueOf, _≼_, _≺_, _⊕_}
+use Rattle.rows.specs.Numbers.{valueOf}
+use Rattle.game.specs.Value.{fin, _≼_, _≺_, _⊕_}
 use Rattle.game.specs.Play.{Trail, meant, disturbed, last, cost, Play, Unsafe, Legal, positional}
 use Rattle.chart.specs.Meaning.{arenaOf}
 use Rattle.plate.specs.Read.{valueIn, choiceIn}
@@ -13,18 +14,14 @@ use Rattle.moves.specs.declared.Kind.{Kind}
 use Rattle.moves.specs.declared.Kind.the-variants.{Meant, Disturbance, Neither}
 use Rattle.run.specs.declared.Run.{Run}
 use Rattle.run.specs.declared.Answer.{Answer}
-use Rattle.run.specs.declared.Answer.the-variants.{Taken, Refused, Form, Position, Move, Count}
+use Rattle.run.specs.declared.Answer.the-variants.{Taken, Refused}
 
 -- an accepted report adds its move to the trail, as what it is; a refused one adds nothing
 unfoldable pub grown : Answer → Kind → ℕ → Trail → Trail
 grown (Taken advice) Meant to t = meant t to
 grown (Taken advice) Disturbance to t = disturbed t to
 grown (Taken advice) Neither to t = t
-grown (Refused r) k to t = t
-grown (Form line) k to t = t
-grown Position k to t = t
-grown Move k to t = t
-grown Count k to t = t
+grown (Refused x) k to t = t
 
 module _ (text plate : List ℕ) where
   unfoldable pub trailWith : Run → ℕ → Trail → Trail

@@ -1,14 +1,13 @@
 // The run (document 01, "The jobs"): it begins by the start job, which wants an accepted plate, and each report moves it on.
 ghost use mathlib.Core.Path.{_≡_};
-ghost use Prim.Native.Nat.{_≤_, _<_};
-ghost use lib.ListN.{length};
-ghost use Rattle.round.specs.Round.{Within};
+ghost use mathlib.Core.List.{List};
+ghost use Prim.Native.Nat.{ℕ, _≤_, _<_};
+ghost use Rattle.rows.specs.Rows.{ChartRows};
 ghost use Rattle.plate.specs.Formed.{formOf};
-ghost use Rattle.run.specs.Running.{CheckedStart, FormedReport, RowsReport, adviceAt, moved, reported, runOf, standing, started, startedBy, unmoved};
-use audit::Checked;
-use audit::check;
+ghost use Rattle.verdict.specs.Sheet.{Ascending};
+ghost use Rattle.run.specs.Running.{FormedReport, FormedStart, RowsReport, RowsStart, adviceAt, begunAt, moved, reported, runOf, standing, started, unmoved};
 use chart::Examination;
-use chart::examine;
+use checking::check_formed;
 use decode::load;
 use moves::Kind;
 use moves::move_kind;
@@ -17,6 +16,8 @@ use plate::LINE;
 use plate::examine_plate;
 use plate::number_at;
 use refusal::Refusal;
+use rows::Chart;
+use verdict::Verdict;
 
 // The position that the machine stands at, the disturbances seen, and the value at the start, 65,535 for "ever".
 #[repr(C)]
@@ -33,24 +34,16 @@ pub struct Advice {
     pub value: u16,
 }
 
-// What a start answers: the run with its advice, the chart's refusal, 11 with the plate's line, 13, or 14 with position and
-// condition.
+// What a start answers: the run with its advice, or a refusal: the chart's, 11, 13 or 14.
 pub enum Started {
     Begun(Run, Advice),
     Refused(Refusal),
-    Form(usize),
-    Position,
-    Fault(usize, u8),
 }
 
-// What a report answers beside the run: advice, the chart's refusal, 11 with the plate's line, 13, 15 or 16.
+// What a report answers beside the run: advice, or a refusal: the chart's, 11, 13, 15 or 16.
 pub enum Answer {
     Taken(Advice),
     Refused(Refusal),
-    Form(usize),
-    Position,
-    Move,
-    Count,
 }
 
 // The run that a report hands back, and its answer.
@@ -67,24 +60,11 @@ impl Run {
     pub fn start(text: &[u8], plate: &[u8], position: usize) -> Started
         ensures { λ r. ⌜ r ≡ started (now (text .entry)) (now (plate .entry)) position ⌝ }
     {
-        match examine(text) {
-            Examination::Refused(r) => Started::Refused(r),
-            Examination::Accepted(chart) => {
-                let n = chart.positions;
-                start_checked(n, check(text, plate), plate, position)
-            }
-        }
-    }
-
-    // The run after the machine went to a position, or the refusal with the run as it was.
-    pub fn report(self, text: &[u8], plate: &[u8], to: usize) -> Reported
-        ensures { λ r. ⌜ r ≡ reported self (now (text .entry)) (now (plate .entry)) to ⌝ }
-    {
-        let mut owners = [0u8; 512];
-        let mut marks = [0u8; 512];
-        let mut costs = [0u8; 4096];
-        let mut froms = [0u16; 4096];
-        let mut tos = [0u16; 4096];
+        let mut owners = [0u8; Chart::POSITIONS];
+        let mut marks = [0u8; Chart::POSITIONS];
+        let mut costs = [0u8; Chart::MOVES];
+        let mut froms = [0u16; Chart::MOVES];
+        let mut tos = [0u16; Chart::MOVES];
         match load(
             text,
             &mut owners,
@@ -93,7 +73,33 @@ impl Run {
             &mut froms,
             &mut tos,
         ) {
-            Examination::Refused(r) => self.unmoved(Answer::Refused(r)),
+            Examination::Refused(r) => Started::Refused(Refusal::Chart(r)),
+            Examination::Accepted(chart) => {
+                let n = chart.positions;
+                let m = chart.moves;
+                start_rows(n, m, &owners, &marks, &costs, &froms, &tos, plate, position)
+            }
+        }
+    }
+
+    // The run after the machine went to a position, or the refusal with the run as it was.
+    pub fn report(self, text: &[u8], plate: &[u8], to: usize) -> Reported
+        ensures { λ r. ⌜ r ≡ reported self (now (text .entry)) (now (plate .entry)) to ⌝ }
+    {
+        let mut owners = [0u8; Chart::POSITIONS];
+        let mut marks = [0u8; Chart::POSITIONS];
+        let mut costs = [0u8; Chart::MOVES];
+        let mut froms = [0u16; Chart::MOVES];
+        let mut tos = [0u16; Chart::MOVES];
+        match load(
+            text,
+            &mut owners,
+            &mut marks,
+            &mut costs,
+            &mut froms,
+            &mut tos,
+        ) {
+            Examination::Refused(r) => self.unmoved(Refusal::Chart(r)),
             Examination::Accepted(chart) => {
                 let n = chart.positions;
                 let m = chart.moves;
@@ -133,10 +139,13 @@ impl Run {
     }
 
     // The run as it was, with a refusal.
-    fn unmoved(self, answer: Answer) -> Reported
-        ensures { λ r. ⌜ r ≡ unmoved self answer ⌝ }
+    fn unmoved(self, refusal: Refusal) -> Reported
+        ensures { λ r. ⌜ r ≡ unmoved self refusal ⌝ }
     {
-        Reported { run: self, answer }
+        Reported {
+            run: self,
+            answer: Answer::Refused(refusal),
+        }
     }
 
     // The run at another position, with so many disturbances seen.
@@ -151,36 +160,66 @@ impl Run {
     }
 }
 
-// The answer to a start, from what Checking answers: 13 before 14.
-fn start_checked(n: usize, checked: Checked, plate: &[u8], position: usize) -> Started
-    requires { ⌜ CheckedStart n (now plate) checked ⌝ }
-    ensures { λ r. ⌜ r ≡ startedBy (now (plate .entry)) position n checked ⌝ }
+// The answer to a start, from a chart's rows: the plate's form first.
+fn start_rows(
+    n: usize,
+    m: usize,
+    owners: &[u8],
+    marks: &[u8],
+    costs: &[u8],
+    froms: &[u16],
+    tos: &[u16],
+    plate: &[u8],
+    position: usize,
+) -> Started
+    requires { ⌜ ChartRows n m (now owners) (now marks) (now costs) (now froms) (now tos) × Ascending m (now froms) ⌝ }
+    ensures { λ r. ⌜ RowsStart n m (now (owners .entry)) (now (marks .entry)) (now (costs .entry)) (now (froms .entry)) (now (tos .entry)) (now (plate .entry)) position r ⌝ }
 {
-    match checked {
-        Checked::Refused(r) => Started::Refused(r),
-        Checked::Form(line) => Started::Form(line),
-        Checked::Fault(v, condition) => {
-            if n <= position {
-                return Started::Position;
-            }
-            Started::Fault(v, condition)
-        }
-        Checked::Accepted => {
-            if n <= position {
-                return Started::Position;
-            }
-            let advice = advice_at(n, plate, position);
-            let initial = advice.value;
-            Started::Begun(
-                Run {
-                    position,
-                    seen: 0,
-                    initial,
-                },
-                advice,
-            )
-        }
+    match examine_plate(n, plate) {
+        Form::Bad(line) => Started::Refused(Refusal::Plate(line)),
+        Form::Good => start_formed(n, m, owners, marks, costs, froms, tos, plate, position),
     }
+}
+
+// From a plate of the form: the position, then the rows' first fault.
+fn start_formed(
+    n: usize,
+    m: usize,
+    owners: &[u8],
+    marks: &[u8],
+    costs: &[u8],
+    froms: &[u16],
+    tos: &[u16],
+    plate: &[u8],
+    position: usize,
+) -> Started
+    requires { ⌜ ChartRows n m (now owners) (now marks) (now costs) (now froms) (now tos) × Ascending m (now froms) × (formOf n (now plate) ≡ Form.Good) ⌝ }
+    ensures { λ r. ⌜ FormedStart n m (now (owners .entry)) (now (marks .entry)) (now (costs .entry)) (now (froms .entry)) (now (tos .entry)) (now (plate .entry)) position r ⌝ }
+{
+    if n <= position {
+        return Started::Refused(Refusal::Position);
+    }
+    match check_formed(n, m, owners, marks, costs, froms, tos, plate) {
+        Verdict::Fault(v, condition) => Started::Refused(Refusal::Fault(v, condition)),
+        Verdict::Sound => begin(n, plate, position),
+    }
+}
+
+// A run that begins at a position of an accepted plate.
+fn begin(n: usize, plate: &[u8], position: usize) -> Started
+    requires { ⌜ (n ≤ 512) × (formOf n (now plate) ≡ Form.Good) × (position < n) ⌝ }
+    ensures { λ r. ⌜ r ≡ begunAt (now (plate .entry)) position ⌝ }
+{
+    let advice = advice_at(n, plate, position);
+    let initial = advice.value;
+    Started::Begun(
+        Run {
+            position,
+            seen: 0,
+            initial,
+        },
+        advice,
+    )
 }
 
 // The answer to a report, from a chart's rows: the plate's form first.
@@ -195,11 +234,11 @@ fn report_rows(
     plate: &[u8],
     to: usize,
 ) -> Reported
-    requires { ⌜ Within n m (now costs) (now froms) (now tos) × (n ≤ 512) × (n ≤ length (now owners)) ⌝ }
+    requires { ⌜ ((marks : List ℕ) × ChartRows n m (now owners) marks (now costs) (now froms) (now tos)) ⌝ }
     ensures { λ r. ⌜ RowsReport n m (now (owners .entry)) (now (costs .entry)) (now (froms .entry)) (now (tos .entry)) run (now (plate .entry)) to r ⌝ }
 {
     match examine_plate(n, plate) {
-        Form::Bad(line) => run.unmoved(Answer::Form(line)),
+        Form::Bad(line) => run.unmoved(Refusal::Plate(line)),
         Form::Good => report_formed(run, n, m, owners, costs, froms, tos, plate, to),
     }
 }
@@ -216,24 +255,24 @@ fn report_formed(
     plate: &[u8],
     to: usize,
 ) -> Reported
-    requires { ⌜ Within n m (now costs) (now froms) (now tos) × (n ≤ 512) × (n ≤ length (now owners)) × (formOf n (now plate) ≡ Form.Good) ⌝ }
+    requires { ⌜ ((marks : List ℕ) × ChartRows n m (now owners) marks (now costs) (now froms) (now tos)) × (formOf n (now plate) ≡ Form.Good) ⌝ }
     ensures { λ r. ⌜ FormedReport n m (now (owners .entry)) (now (costs .entry)) (now (froms .entry)) (now (tos .entry)) run (now (plate .entry)) to r ⌝ }
 {
     let v = run.position;
     if n <= v {
-        return run.unmoved(Answer::Position);
+        return run.unmoved(Refusal::Position);
     }
     if n <= to {
-        return run.unmoved(Answer::Position);
+        return run.unmoved(Refusal::Position);
     }
     let here = advice_at(n, plate, v);
     let seen = run.seen;
     match move_kind(v, to, here.choice, n, m, owners, costs, froms, tos) {
-        Kind::Neither => run.unmoved(Answer::Move),
+        Kind::Neither => run.unmoved(Refusal::Move),
         Kind::Meant => stand(run.moved(to, seen), n, plate),
         Kind::Disturbance => {
             if Run::COUNTED <= seen {
-                return run.unmoved(Answer::Count);
+                return run.unmoved(Refusal::Seen);
             }
             stand(run.moved(to, seen + 1), n, plate)
         }

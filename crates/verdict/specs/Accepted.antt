@@ -7,12 +7,13 @@ use Rattle.game.specs.Arena.{Arena, WellFormed, size}
 use Rattle.game.specs.Table.{roundStep}
 use Rattle.game.specs.Certified.{certificate-is-legal, certificate-gives-values, certificate-gives-worths}
 use Rattle.game.specs.RoundValues.{optimal-choices-with-round-steps-have-a-certificate}
-use Rattle.summary.specs.declared.Summary.{Summary}
-use Rattle.verdict.specs.Verdict.{HeaderIs, RightPlate, verdictOf}
+use Rattle.rows.specs.FirstLine.{FirstLineIs}
+use Rattle.rows.specs.declared.FirstLine.{FirstLine}
+use Rattle.verdict.specs.Verdict.{RightPlate, verdictOf}
 use Rattle.verdict.specs.Exact.{sound-exactly}
-use Rattle.verdict.specs.declared.rows.Verdict.the-variants.{Sound}
+use Rattle.verdict.specs.declared.Verdict.the-variants.{Sound}
 
-module _ (a : Arena) (well : WellFormed a) (value choice step : ℕ → Value) (h : Summary) where
+module _ (a : Arena) (well : WellFormed a) (value choice step : ℕ → Value) (h : FirstLine) where
   pub accepted-is-right : verdictOf a value choice step h ≡ Sound → RightPlate a value choice
   accepted-is-right e =
       let certificate = sound-exactly a value choice step h .0 e .0 in
@@ -23,7 +24,7 @@ module _ (a : Arena) (well : WellFormed a) (value choice step : ℕ → Value) (
         optimal = certificate-gives-worths a well value choice step certificate legal;
       }
 
-  pub right-is-accepted : RightPlate a value choice → HeaderIs (size a) value (roundStep a) h → verdictOf a value choice (roundStep a) h ≡ Sound
+  pub right-is-accepted : RightPlate a value choice → FirstLineIs (size a) value (roundStep a) h → verdictOf a value choice (roundStep a) h ≡ Sound
   right-is-accepted r is =
       sound-exactly a value choice (roundStep a) h .1
       (optimal-choices-with-round-steps-have-a-certificate a well value choice (r .right) (r .legal) (r .optimal), is)

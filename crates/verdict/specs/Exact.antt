@@ -7,29 +7,31 @@ use mathlib.Core.Logic.{_⊎_, inl, inr, ⊎-elim, _↔_}
 use mathlib.Core.Bool.{Bool, not, _&&_}
 use lib.Dec.{T, eqb, eqb→eq, T-not}
 use borrow.Author.Tests.{eq-eqb}
-use Rattle.game.specs.Value.{Value, numberOf}
+use Rattle.rows.specs.Numbers.{numberOf}
+use Rattle.rows.specs.FirstLine.{FirstLineIs}
+use Rattle.game.specs.Value.{Value}
 use Rattle.game.specs.Arena.{Arena, size}
 use Rattle.game.specs.Certificate.{Certificate}
 use Rattle.game.specs.Fault.{faultAt}
 use Rattle.game.specs.FaultLaws.{fault-exactly, no-fault-exactly}
 use Rattle.game.specs.MoveTests.{and-left, and-right, and-both, is-true, is-false, passes-or-fails}
-use Rattle.game.specs.Summary.{pairCount, highest, everCount}
-use Rattle.summary.specs.declared.Summary.{Summary}
-use Rattle.verdict.specs.Verdict.{FirstFaultIs, HeaderIs, atHeader, atPosition, firstFrom, headerRight, headerVerdict, verdictOf}
-use Rattle.verdict.specs.VerdictLaws.{first-fault, first-or-none, no-fault}
-use Rattle.verdict.specs.declared.rows.Verdict.{Verdict}
-use Rattle.verdict.specs.declared.rows.Verdict.the-variants.{Sound, Fault}
+use Rattle.game.specs.FirstLine.{pairCount, highest, everCount}
+use Rattle.rows.specs.declared.FirstLine.{FirstLine}
+use Rattle.verdict.specs.Verdict.{FirstFaultIs, atHeader, atPosition, firstFault, headerRight, headerVerdict, verdictOf}
+use Rattle.verdict.specs.VerdictLaws.{fault-or-none, first-fault, no-fault}
+use Rattle.verdict.specs.declared.Verdict.{Verdict}
+use Rattle.verdict.specs.declared.Verdict.the-variants.{Sound, Fault}
 
 -- the test of the header is its record
-pub header-test : (n : ℕ) (value step : ℕ → Value) (h : Summary) → T (headerRight n value step h) ↔ HeaderIs n value step h
+pub header-test : (n : ℕ) (value step : ℕ → Value) (h : FirstLine) → T (headerRight n value step h) ↔ FirstLineIs n value step h
 unfolding headerRight
 header-test n value step h = (
   λ t. record {
-    rounds-counted = eqb→eq (h .rounds) (pairCount value step n) (and-left p q (and-left (p && q) r t));
+    rounds = eqb→eq (h .rounds) (pairCount value step n) (and-left p q (and-left (p && q) r t));
     highest-value = eqb→eq (h .highest) (numberOf (highest value n)) (and-right p q (and-left (p && q) r t));
-    evers-counted = eqb→eq (h .evers) (everCount value n) (and-right (p && q) r t);
+    evers = eqb→eq (h .evers) (everCount value n) (and-right (p && q) r t);
   },
-  λ is. and-both (p && q) r (and-both p q (same (is .rounds-counted)) (same (is .highest-value))) (same (is .evers-counted)),
+  λ is. and-both (p && q) r (and-both p q (same (is .rounds)) (same (is .highest-value))) (same (is .evers)),
 )
   where
     p : Bool
@@ -44,18 +46,18 @@ header-test n value step h = (
     same : {x y : ℕ} → x ≡ y → T (eqb x y)
     same {x} {y} e = subst T (sym (eq-eqb x y e)) tt
 
-module _ (a : Arena) (value choice step : ℕ → Value) (h : Summary) where
+module _ (a : Arena) (value choice step : ℕ → Value) (h : FirstLine) where
   abbrev fault : ℕ → ℕ
   fault = faultAt a value choice step
 
   abbrev end : Verdict
   end = headerVerdict (size a) value step h
 
-  header-sound : HeaderIs (size a) value step h → end ≡ Sound
+  header-sound : FirstLineIs (size a) value step h → end ≡ Sound
   unfolding headerVerdict
   header-sound is = rw (is-true (headerRight (size a) value step h) (header-test (size a) value step h .1 is))
 
-  header-faulty : (HeaderIs (size a) value step h → ⊥) → end ≡ Fault (size a) 6
+  header-faulty : (FirstLineIs (size a) value step h → ⊥) → end ≡ Fault (size a) 6
   unfolding headerVerdict
   header-faulty wrong = go (passes-or-fails (headerRight (size a) value step h))
     where
@@ -65,7 +67,7 @@ module _ (a : Arena) (value choice step : ℕ → Value) (h : Summary) where
 
   -- the answer is one of these
   Answer : Verdict → Type 0
-  Answer Sound = Certificate a value choice step × HeaderIs (size a) value step h
+  Answer Sound = Certificate a value choice step × FirstLineIs (size a) value step h
   Answer (Fault v c) = FirstFaultIs a value choice step h v c
 
   certified : ((u : ℕ) → u < size a → fault u ≡ 0) → Certificate a value choice step
@@ -73,30 +75,30 @@ module _ (a : Arena) (value choice step : ℕ → Value) (h : Summary) where
 
   answered : Answer (verdictOf a value choice step h)
   unfolding verdictOf Answer
-  answered = ⊎-elim clean-case fault-case (first-or-none fault end (size a))
+  answered = ⊎-elim clean-case fault-case (fault-or-none fault end (size a))
     where
-      clean-case : ((u : ℕ) → u < size a → fault u ≡ 0) → Answer (firstFrom fault end (size a) 0)
+      clean-case : ((u : ℕ) → u < size a → fault u ≡ 0) → Answer (firstFault fault end (size a))
       clean-case clean = go (passes-or-fails (headerRight (size a) value step h))
         where
-          go : T (headerRight (size a) value step h) ⊎ T (not (headerRight (size a) value step h)) → Answer (firstFrom fault end (size a) 0)
+          go : T (headerRight (size a) value step h) ⊎ T (not (headerRight (size a) value step h)) → Answer (firstFault fault end (size a))
           go (inl t) =
               let is = header-test (size a) value step h .0 t in
               subst Answer (sym (no-fault fault end (size a) clean ∙ header-sound is)) (certified clean, is)
           go (inr f) =
-              let wrong : HeaderIs (size a) value step h → ⊥ = λ is. T-not (headerRight (size a) value step h) f (header-test (size a) value step h .1 is) in
+              let wrong : FirstLineIs (size a) value step h → ⊥ = λ is. T-not (headerRight (size a) value step h) f (header-test (size a) value step h .1 is) in
               subst Answer (sym (no-fault fault end (size a) clean ∙ header-faulty wrong)) (atHeader (certified clean) wrong)
 
-      fault-case : ((v : ℕ) × (v < size a) × ((u : ℕ) → u < v → fault u ≡ 0) × (fault v ≡ 0 → ⊥)) → Answer (firstFrom fault end (size a) 0)
+      fault-case : ((v : ℕ) × (v < size a) × ((u : ℕ) → u < v → fault u ≡ 0) × (fault v ≡ 0 → ⊥)) → Answer (firstFault fault end (size a))
       fault-case (v, inside, clean, wrong) = go (fault v) refl
         where
-          go : (c : ℕ) → fault v ≡ c → Answer (firstFrom fault end (size a) 0)
+          go : (c : ℕ) → fault v ≡ c → Answer (firstFault fault end (size a))
           go zero e = absurd (wrong e)
           go (suc c) e =
               subst Answer (sym (first-fault fault end (size a) v (suc c) inside clean e (λ z. omega arith)))
               (atPosition inside (λ u l. no-fault-exactly a value choice step u .0 (clean u l)) (fault-exactly a value choice step v (suc c) .0 e))
 
   -- accepted exactly when the certificate holds and the header's numbers are those of the lines
-  pub sound-exactly : (verdictOf a value choice step h ≡ Sound) ↔ (Certificate a value choice step × HeaderIs (size a) value step h)
+  pub sound-exactly : (verdictOf a value choice step h ≡ Sound) ↔ (Certificate a value choice step × FirstLineIs (size a) value step h)
   unfolding verdictOf Answer
   sound-exactly = (
     λ e. subst Answer e answered,
@@ -108,7 +110,7 @@ module _ (a : Arena) (value choice step : ℕ → Value) (h : Summary) where
   unfolding verdictOf Answer
   first-fault-exactly v c = (λ e. subst Answer e answered, from)
     where
-      from : {v c : ℕ} → FirstFaultIs a value choice step h v c → firstFrom fault end (size a) 0 ≡ Fault v c
+      from : {v c : ℕ} → FirstFaultIs a value choice step h v c → firstFault fault end (size a) ≡ Fault v c
       from (atPosition {v} {c} inside clean first) =
           first-fault fault end (size a) v (suc c) inside (λ u l. no-fault-exactly a value choice step u .1 (clean u l)) (fault-exactly a value choice step v (suc c) .1 first) (λ z. omega arith)
       from (atHeader certificate wrong) =

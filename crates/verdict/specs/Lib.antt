@@ -3,7 +3,7 @@ pub mod Sheet
 pub mod RowsChecked
 pub mod VerdictLaws
 pub mod Walk
-pub mod Numbers
+pub mod Costs
 pub mod Shown
 pub mod RowFault
 pub mod RowsCheckedLaws

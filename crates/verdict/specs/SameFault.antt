@@ -1,19 +1,21 @@
 -- Checking's answer goes by the columns at the arena's positions only: moves join positions, and so do choices in range.
 use Prim.Native.Nat.{ℕ, _<_}
-use native.Mathlib.Omega.{arith}
-use mathlib.Core.Path.{_≡_, refl, ap, _∙_}
+use mathlib.Core.Path.{_≡_, refl, sym, ap, _∙_}
+use mathlib.Core.Logic.{_⊎_, inl, inr}
 use mathlib.Core.Bool.{Bool, cond, not, _&&_, _||_}
+use lib.Dec.{T, T-not}
 use mathlib.Core.List.{List, [], _∷_, List·Memᴰ, List·Memᴰ·head, List·Memᴰ·tail}
 use Rattle.game.specs.Value.{Value, fin, ever, leV, eqV, _⊕_}
 use Rattle.game.specs.Arena.{Arena, Move, Owner, controller, environment, WellFormed, ownerAt, size, unsafe}
 use Rattle.game.specs.Play.{disturbanceCost, targetOf}
 use Rattle.game.specs.Table.{someMove, everyMove, meantFrom, disturbanceFrom}
-use Rattle.game.specs.Fault.{earlier, unsafeZero, dashed, legalAs, holdsAs, ruinedAs, ruined, faultAt}
-use Rattle.game.specs.Summary.{highest}
-use Rattle.value.specs.ValuingLaws.{pairs-same, highest-same, evers-same}
-use Rattle.summary.specs.declared.Summary.{Summary}
+use Rattle.game.specs.Fault.{earlier, unsafeZero, dashed, legalAs, meantHold, disturbancesHold, holds, meantRuin, disturbanceRuins, ruined, faultAt}
+use Rattle.game.specs.MoveTests.{is-true, is-false, passes-or-fails}
+use Rattle.rows.specs.FirstLineLaws.{first-line-same}
+use Rattle.rows.specs.declared.FirstLine.{FirstLine}
 use Rattle.plate.specs.RowTrip.{Agree}
 use Rattle.verdict.specs.Verdict.{headerRight, headerVerdict, verdictOf}
+use Rattle.verdict.specs.Exact.{header-test}
 use Rattle.verdict.specs.VerdictLaws.{same-first}
 
 -- tests that agree on the moves
@@ -44,47 +46,66 @@ module _ (a : Arena) (well : WellFormed a) (value value′ choice choice′ step
     legal-same controller = λ i. someMove (λ m. meantFrom v m && eqV (choices v inside i) (fin (m .to))) (a .moves)
     legal-same environment = λ i. eqV (choices v inside i) ever
 
-    holds-same : (o : Owner) → holdsAs a value choice step o v ≡ holdsAs a value′ choice′ step′ o v
-    unfolding holdsAs everyMove
-    holds-same controller = λ i. kept i && not (every i)
-      where
-        kept : leV (value v) (value (targetOf (choice v))) ≡ leV (value′ v) (value′ (targetOf (choice′ v)))
-        kept = at-most-same (targetOf (choice v)) (targets v inside) ∙ ap (λ (x : Value). leV (value′ v) (value′ (targetOf x))) (choices v inside)
+    -- a test of every target of a kind of v's moves
+    every-same : (of : Move → Bool) (q q′ : ℕ → Bool) → ((w : ℕ) → w < size a → q w ≡ q′ w)
+        → everyMove (λ m. not (of m) || q (m .to)) (a .moves) ≡ everyMove (λ m. not (of m) || q′ (m .to)) (a .moves)
+    unfolding everyMove
+    every-same of q q′ same = ap not (some-same (λ m b. not (not (of m) || b)) q q′ same)
 
-        every : someMove (λ m. not (not (disturbanceFrom v m) || leV (value v) (value (m .to) ⊕ disturbanceCost a v (m .to)))) (a .moves)
-            ≡ someMove (λ m. not (not (disturbanceFrom v m) || leV (value′ v) (value′ (m .to) ⊕ disturbanceCost a v (m .to)))) (a .moves)
-        every = some-same (λ m b. not (not (disturbanceFrom v m) || b)) (λ w. leV (value v) (value w ⊕ disturbanceCost a v w)) (λ w. leV (value′ v) (value′ w ⊕ disturbanceCost a v w))
-            (λ w l. rw (values v inside, values w l))
-    holds-same environment =
-        ap not (some-same (λ m b. not (not (meantFrom v m) || b)) (λ w. leV (value v) (value w)) (λ w. leV (value′ v) (value′ w)) at-most-same)
+    meant-hold-same : (o : Owner) → meantHold a value choice step o v ≡ meantHold a value′ choice′ step′ o v
+    unfolding meantHold
+    meant-hold-same controller =
+        at-most-same (targetOf (choice v)) (targets v inside) ∙ ap (λ (x : Value). leV (value′ v) (value′ (targetOf x))) (choices v inside)
+    meant-hold-same environment = every-same (meantFrom v) (λ w. leV (value v) (value w)) (λ w. leV (value′ v) (value′ w)) at-most-same
 
-    ruined-same : (o : Owner) → ruinedAs a value choice step o v ≡ ruinedAs a value′ choice′ step′ o v
-    unfolding ruinedAs everyMove
-    ruined-same controller = λ i. some i || not (every i)
-      where
-        some : someMove (λ m. disturbanceFrom v m && leV (value (m .to) ⊕ disturbanceCost a v (m .to)) (value v)) (a .moves)
-            ≡ someMove (λ m. disturbanceFrom v m && leV (value′ (m .to) ⊕ disturbanceCost a v (m .to)) (value′ v)) (a .moves)
-        some = some-same (λ m b. disturbanceFrom v m && b) (λ w. leV (value w ⊕ disturbanceCost a v w) (value v)) (λ w. leV (value′ w ⊕ disturbanceCost a v w) (value′ v))
-            (λ w l. rw (values v inside, values w l))
+    disturbances-hold-same : disturbancesHold a value choice step v ≡ disturbancesHold a value′ choice′ step′ v
+    unfolding disturbancesHold
+    disturbances-hold-same =
+        every-same (disturbanceFrom v) (λ w. leV (value v) (value w ⊕ disturbanceCost a v w)) (λ w. leV (value′ v) (value′ w ⊕ disturbanceCost a v w))
+        (λ w l. rw (values v inside, values w l))
 
-        every : someMove (λ m. not (not (meantFrom v m) || earlier a value choice step (m .to) v)) (a .moves)
-            ≡ someMove (λ m. not (not (meantFrom v m) || earlier a value′ choice′ step′ (m .to) v)) (a .moves)
-        every = some-same (λ m b. not (not (meantFrom v m) || b)) (λ w. earlier a value choice step w v) (λ w. earlier a value′ choice′ step′ w v)
-            (λ w l. earlier-same w v l inside)
-    ruined-same environment =
+    meant-ruin-same : (o : Owner) → meantRuin a value choice step o v ≡ meantRuin a value′ choice′ step′ o v
+    unfolding meantRuin
+    meant-ruin-same controller =
+        every-same (meantFrom v) (λ w. earlier a value choice step w v) (λ w. earlier a value′ choice′ step′ w v) (λ w l. earlier-same w v l inside)
+    meant-ruin-same environment =
         some-same (λ m b. meantFrom v m && b) (λ w. earlier a value choice step w v) (λ w. earlier a value′ choice′ step′ w v) (λ w l. earlier-same w v l inside)
 
+    disturbance-ruins-same : disturbanceRuins a value choice step v ≡ disturbanceRuins a value′ choice′ step′ v
+    unfolding disturbanceRuins
+    disturbance-ruins-same =
+        some-same (λ m b. disturbanceFrom v m && b) (λ w. leV (value w ⊕ disturbanceCost a v w) (value v)) (λ w. leV (value′ w ⊕ disturbanceCost a v w) (value′ v))
+        (λ w l. rw (values v inside, values w l))
+
     fault-same : faultAt a value choice step v ≡ faultAt a value′ choice′ step′ v
-    unfolding faultAt unsafeZero dashed ruined
+    unfolding faultAt unsafeZero dashed holds ruined
     fault-same = λ i.
         cond (not (not (unsafe a v) || eqV (values v inside i) (fin 0))) 1
         (cond (not (cond (eqV (values v inside i) ever) (eqV (steps v inside i) ever) (not (eqV (steps v inside i) ever)))) 2
         (cond (not (legal-same (ownerAt a v) i)) 3
-        (cond (not (holds-same (ownerAt a v) i)) 4
-        (cond (not (unsafe a v || eqV (values v inside i) ever || ruined-same (ownerAt a v) i)) 5 0))))
+        (cond (not (meant-hold-same (ownerAt a v) i && disturbances-hold-same i)) 4
+        (cond (not (unsafe a v || eqV (values v inside i) ever || (disturbance-ruins-same i || meant-ruin-same (ownerAt a v) i))) 5 0))))
 
-  pub verdict-same : (h : Summary) → verdictOf a value choice step h ≡ verdictOf a value′ choice′ step′ h
-  unfolding verdictOf headerVerdict headerRight
+  -- condition 6
+  header-same : (h : FirstLine) → headerRight (size a) value step h ≡ headerRight (size a) value′ step′ h
+  header-same h = go (passes-or-fails (headerRight (size a) value step h)) (passes-or-fails (headerRight (size a) value′ step′ h))
+    where
+      there : T (headerRight (size a) value step h) → T (headerRight (size a) value′ step′ h)
+      there t = header-test (size a) value′ step′ h .1 (first-line-same values steps (header-test (size a) value step h .0 t))
+
+      back : T (headerRight (size a) value′ step′ h) → T (headerRight (size a) value step h)
+      back t =
+          header-test (size a) value step h .1
+          (first-line-same (λ v l. sym (values v l)) (λ v l. sym (steps v l)) (header-test (size a) value′ step′ h .0 t))
+
+      go : T (headerRight (size a) value step h) ⊎ T (not (headerRight (size a) value step h)) → T (headerRight (size a) value′ step′ h) ⊎ T (not (headerRight (size a) value′ step′ h))
+          → headerRight (size a) value step h ≡ headerRight (size a) value′ step′ h
+      go (inl p) q = is-true (headerRight (size a) value step h) p ∙ sym (is-true (headerRight (size a) value′ step′ h) (there p))
+      go (inr p) (inl q) = absurd (T-not (headerRight (size a) value step h) p (back q))
+      go (inr p) (inr q) = is-false (headerRight (size a) value step h) p ∙ sym (is-false (headerRight (size a) value′ step′ h) q)
+
+  pub verdict-same : (h : FirstLine) → verdictOf a value choice step h ≡ verdictOf a value′ choice′ step′ h
+  unfolding verdictOf headerVerdict
   verdict-same h =
-      same-first (faultAt a value choice step) (faultAt a value′ choice′ step′) (headerVerdict (size a) value step h) (size a) 0 (λ u l k. fault-same u (omega arith))
-      ∙ rw (pairs-same value value′ step step′ (size a) values steps, highest-same value value′ (size a) values, evers-same value value′ (size a) values)
+      same-first (faultAt a value choice step) (faultAt a value′ choice′ step′) (headerVerdict (size a) value step h) (size a) fault-same
+      ∙ rw (header-same h)

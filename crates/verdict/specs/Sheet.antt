@@ -7,9 +7,9 @@ use mathlib.Core.Bool.{Bool, cond}
 use mathlib.Core.List.{List}
 use lib.ListN.{length, getD}
 use lib.Dec.{eqb}
+use Rattle.rows.specs.Numbers.{numberAt, rowValue}
+use Rattle.rows.specs.Notes.{found}
 use Rattle.game.specs.Value.{Value}
-use Rattle.round.specs.RowLaws.{found, numberAt}
-use Rattle.summary.specs.Summarize.{rowValue}
 use Rattle.conditions.specs.Position.{afterMoves, beforeMoves, shown}
 use Rattle.conditions.specs.declared.Line.{Line}
 use Rattle.conditions.specs.declared.Target.{Target}

@@ -1,136 +1,117 @@
--- What the moves of a position show in the code's rows is what the moves of the arena show, and what its conditions ask.
+-- What the moves of a position show in the code's rows is what the moves of the arena show: each flag is a test of the targets
+-- of its disturbances and one of its meant targets.
 use Prim.Native.Nat.{ℕ, _≤_, _<_}
 use native.Mathlib.Decide.{ℕ-discrete}
 use native.Mathlib.Omega.{arith}
-use mathlib.Core.Path.{_≡_, sym, ap, _∙_}
+use mathlib.Core.Path.{_≡_, refl, sym, _∙_}
 use mathlib.Core.Logic.{_⊎_, inl, inr}
-use mathlib.Core.Bool.{Bool, false, cond, not, _&&_, _||_}
-use mathlib.Core.List.{List·Memᴰ, Memᴰ·cast}
+use mathlib.Core.Bool.{Bool, true, false, cond, not, _&&_, _||_, and-false, or-false}
+use mathlib.Core.List.{List, [], _∷_}
 use lib.ListN.{getD}
 use lib.Dec.{eqb, ltb}
-use Rattle.game.specs.Value.{Value, fin, leV, ltV, eqV, _⊕_}
-use Rattle.game.specs.Arena.{Arena, Move, Owner, controller, environment, ownerAt, moveAt, noMove, disturbanceMove}
+use borrow.Author.Tests.{eq-eqb, ne-eqb}
+use Rattle.game.specs.Value.{fin, leV, eqV, _⊕_}
+use Rattle.game.specs.Arena.{Arena, Move, moveAt, noMove}
 use Rattle.game.specs.Play.{disturbanceCost}
-use Rattle.game.specs.Table.{someMove}
+use Rattle.game.specs.PlayLaws.{disturbance-counts, disturbance-cost-small}
+use Rattle.game.specs.Table.{someMove, meantFrom, disturbanceFrom}
 use Rattle.game.specs.Fault.{earlier}
-use Rattle.game.specs.Rows.{ownerNumber}
 use Rattle.game.specs.Members.{at-member}
-use Rattle.round.specs.Held.{Decoded}
-use Rattle.round.specs.HeldLaws.{lines-of, to-inside}
-use Rattle.summary.specs.SummarizeLaws.{same-values}
-use Rattle.conditions.specs.Position.{isController, shown, shownMeant, shownDisturbance, earlierTarget}
+use Rattle.rows.specs.Rows.{RowsOf}
+use Rattle.rows.specs.RowsLaws.{lines-of, to-inside}
+use Rattle.rows.specs.NumberLaws.{below-number, finite-number, same-values, smaller-number}
+use Rattle.conditions.specs.Position.{shown, shownMeant, shownDisturbance, earlierTarget}
 use Rattle.verdict.specs.Sheet.{Formed, Sheet, choiceAt, lineAt, someShows, stepAt, targetAt, valueAt}
-use Rattle.verdict.specs.Numbers.{below-less-one, below-number, finite-number, smaller-number}
+use Rattle.verdict.specs.Costs.{Roomy, below-with-cost, within-with-cost}
 use Rattle.conditions.specs.declared.Target.{Target}
 use Rattle.conditions.specs.declared.Seen.{Seen}
 
--- what a move to w shows at v, in the arena's terms
-module _ (a : Arena) (value choice step : ℕ → Value) (o : Owner) (v : ℕ) where
-  abbrev pub free : Bool
-  free = not (eqb (ownerNumber o) 0)
+some-or : (p q : Move → Bool) (ms : List Move) → someMove (λ x. p x || q x) ms ≡ (someMove p ms || someMove q ms)
+unfolding someMove
+some-or p q [] = refl
+some-or p q (x ∷ ms) = rw (some-or p q ms) (go (p x) (q x) (someMove p ms) (someMove q ms))
+  where
+    go : (a b c d : Bool) → cond (a || b) true (c || d) ≡ (cond a true c || cond b true d)
+    go true b c d = refl
+    go false true true d = refl
+    go false true false d = refl
+    go false false c d = refl
 
-  abbrev pub meantShows : ℕ → Seen
-  meantShows w =
-      record {
-        chosen = eqV (choice v) (fin w);
-        low = (free || eqV (choice v) (fin w)) && not (leV (value v) (value w));
-        ruin = free && earlier a value choice step w v;
-        late = not (earlier a value choice step w v);
-      }
+-- some disturbance of v, some meant move of v has a target that passes the test
+abbrev pub someDisturbance : Arena → ℕ → (ℕ → Bool) → Bool
+someDisturbance a v q = someMove (λ x. disturbanceFrom v x && q (x .to)) (a .moves)
 
-  abbrev pub disturbanceShows : ℕ → Seen
-  disturbanceShows w =
-      record {
-        chosen = false;
-        low = not (leV (value v) (value w ⊕ disturbanceCost a v w));
-        ruin = ltV (value w) (value v);
-        late = false;
-      }
+abbrev pub someMeant : Arena → ℕ → (ℕ → Bool) → Bool
+someMeant a v q = someMove (λ x. meantFrom v x && q (x .to)) (a .moves)
 
-  unfoldable pub moveShows : Move → Seen
-  moveShows x = cond (eqb (x .cost) 0) (meantShows (x .to)) (disturbanceShows (x .to))
-
--- a move costs 0 or 1, and at L 0
-abbrev pub Kind : Owner → Move → Type 0
-Kind controller x = (x .cost ≡ 0) ⊎ (x .cost ≡ 1)
-Kind environment x = x .cost ≡ 0
-
-module _ (a : Arena) (n m : ℕ) (s : Sheet) (d : Decoded a n m (s .owners) (s .costs) (s .froms) (s .tos)) (few : n ≤ 512) (formed : Formed n (s .values) (s .steps))
+module _ (a : Arena) (n m : ℕ) (s : Sheet) (d : RowsOf a n m (s .owners) (s .marks) (s .costs) (s .froms) (s .tos)) (formed : Formed n (s .values) (s .steps))
     (v : ℕ) (inside : v < n) where
   word : {x : ℕ} → (x ≡ 65535) ⊎ (x < 512) → x ≤ 65535
   word (inl e) = omega arith
   word (inr l) = omega arith
 
+  roomy : {x : ℕ} → (x ≡ 65535) ⊎ (x < 512) → Roomy x
+  roomy (inl e) = inl e
+  roomy (inr l) = inr (omega arith)
+
   -- a target w with its value and step
-  abbrev target : ℕ → ℕ → Target
+  abbrev pub target : ℕ → ℕ → Target
   target cost w = record { cost = cost; to = w; value = getD (s .values) w 0; step = getD (s .steps) w 0 }
 
-  module _ (cost w : ℕ) (l : w < n) where
-    earlier-number : earlierTarget (lineAt s v) (target cost w) ≡ earlier a (valueAt s) (choiceAt s) (stepAt s) w v
+  -- a move to w by the numbers, and by the values that they stand for
+  module _ (w : ℕ) (l : w < n) where
+    pub earlier-number : (cost : ℕ) → earlierTarget (lineAt s v) (target cost w) ≡ earlier a (valueAt s) (choiceAt s) (stepAt s) w v
     unfolding earlierTarget earlier
-    earlier-number =
+    earlier-number cost =
         rw (
           smaller-number (getD (s .values) w 0) (getD (s .values) v 0) (word (formed .value w l)) (word (formed .value v inside)),
           ← same-values (getD (s .values) w 0) (getD (s .values) v 0),
           smaller-number (getD (s .steps) w 0) (getD (s .steps) v 0) (word (formed .step w l)) (word (formed .step v inside)),
         )
 
-    chosen-number : eqb (getD (s .choices) v 0) w ≡ eqV (choiceAt s v) (fin w)
-    chosen-number = sym (same-values (getD (s .choices) v 0) w) ∙ rw (finite-number w (λ z. omega arith))
+    pub chosen-number : eqb (getD (s .choices) v 0) w ≡ eqV (choiceAt s v) (fin w)
+    chosen-number = sym (same-values (getD (s .choices) v 0) w) ∙ rw (finite-number w (λ z. omega (arith, d .few-positions)))
 
-    owner-number : isController (lineAt s v) ≡ eqb (ownerNumber (ownerAt a v)) 0
-    owner-number = ap (λ (x : ℕ). eqb x 0) (d .owner v inside)
-
-    low-number : ltb (getD (s .values) w 0) (getD (s .values) v 0) ≡ not (leV (valueAt s v) (valueAt s w))
+    pub low-number : ltb (getD (s .values) w 0) (getD (s .values) v 0) ≡ not (leV (valueAt s v) (valueAt s w))
     low-number = below-number (getD (s .values) w 0) (getD (s .values) v 0) (word (formed .value w l)) (word (formed .value v inside))
 
-    meant-shows : shownMeant (lineAt s v) (target cost w) ≡ meantShows a (valueAt s) (choiceAt s) (stepAt s) (ownerAt a v) v w
-    meant-shows = λ i. record {
-      chosen = chosen-number i;
-      low = (not (owner-number i) || chosen-number i) && low-number i;
-      ruin = not (owner-number i) && earlier-number i;
-      late = not (earlier-number i);
-    }
+    pub disturbed-low-number :
+        shownDisturbance (lineAt s v) (target (disturbanceCost a v w) w) .low ≡ not (leV (valueAt s v) (valueAt s w ⊕ disturbanceCost a v w))
+    disturbed-low-number =
+        below-with-cost (getD (s .values) w 0) (getD (s .values) v 0) (disturbanceCost a v w) (roomy (formed .value w l)) (word (formed .value v inside))
+        (disturbance-cost-small a v w)
 
-    disturbance-shows : shownDisturbance (lineAt s v) (target cost w) ≡ disturbanceShows a (valueAt s) (choiceAt s) (stepAt s) (ownerAt a v) v w
-    unfolding disturbanceCost
-    disturbance-shows = λ i. record {
-      chosen = false;
-      low = below-less-one (getD (s .values) w 0) (getD (s .values) v 0) (word (formed .value w l)) (word (formed .value v inside)) i;
-      ruin = smaller-number (getD (s .values) w 0) (getD (s .values) v 0) (word (formed .value w l)) (word (formed .value v inside)) i;
-      late = false;
-    }
+    pub disturbed-ruin-number : (getD (s .values) v 0 ≡ 65535 → ⊥) →
+        shownDisturbance (lineAt s v) (target (disturbanceCost a v w) w) .ruin ≡ leV (valueAt s w ⊕ disturbanceCost a v w) (valueAt s v)
+    disturbed-ruin-number finite = go (formed .value v inside)
+      where
+        go : (getD (s .values) v 0 ≡ 65535) ⊎ (getD (s .values) v 0 < 512)
+            → shownDisturbance (lineAt s v) (target (disturbanceCost a v w) w) .ruin ≡ leV (valueAt s w ⊕ disturbanceCost a v w) (valueAt s v)
+        go (inl e) = absurd (finite e)
+        go (inr k) =
+            within-with-cost (getD (s .values) w 0) (getD (s .values) v 0) (disturbanceCost a v w) (roomy (formed .value w l)) (omega arith)
+            (disturbance-cost-small a v w)
 
-  -- what the j-th move shows
-  move-shows : (j : ℕ) → j < m → shown (lineAt s v) (targetAt s j) ≡ moveShows a (valueAt s) (choiceAt s) (stepAt s) (ownerAt a v) v (moveAt a j)
-  unfolding shown moveShows
-  move-shows j l =
-      let x = moveAt a j in
-      let t = to-inside a n m (s .owners) (s .costs) (s .froms) (s .tos) d j l in
-      rw (d .cost j l, d .to j l) (λ i. cond (eqb (x .cost) 0) (meant-shows (x .cost) (x .to) t i) (disturbance-shows (x .cost) (x .to) t i))
-
-  kind : (o : Owner) → ownerAt a v ≡ o → (j : ℕ) → j < m → moveAt a j .from ≡ v → Kind o (moveAt a j)
-  kind o own j l f = go o own (ℕ-discrete (x .cost) 0)
+  -- a flag of what all moves of v show: some disturbance passes the test that one shows by it, or some meant move passes its own
+  pub flag-is : (field : Seen → Bool) (p q : ℕ → Bool)
+      → ((w : ℕ) → w < n → field (shownDisturbance (lineAt s v) (target (disturbanceCost a v w) w)) ≡ q w)
+      → ((w cost : ℕ) → w < n → field (shownMeant (lineAt s v) (target cost w)) ≡ p w)
+      → someShows field s m v ≡ (someDisturbance a v q || someMeant a v p)
+  unfolding shown meantFrom disturbanceFrom
+  flag-is field p q disturbance meant =
+      lines-of a n m (s .owners) (s .marks) (s .costs) (s .froms) (s .tos) d v (λ j. field (shown (lineAt s v) (targetAt s j)))
+      (λ x. disturbanceFrom v x && q (x .to) || meantFrom v x && p (x .to)) (λ j l f. at j l f (ℕ-discrete (moveAt a j .cost) 0)) other
+      ∙ some-or (λ x. disturbanceFrom v x && q (x .to)) (λ x. meantFrom v x && p (x .to)) (a .moves)
     where
-      x : Move
-      x = moveAt a j
+      other : (x : Move) → eqb (x .from) v ≡ false → (disturbanceFrom v x && q (x .to) || meantFrom v x && p (x .to)) ≡ false
+      other x e = rw (e, and-false (not (eqb (x .cost) 0)), and-false (eqb (x .cost) 0))
 
-      mem : List·Memᴰ x (a .moves)
-      mem = at-member noMove (a .moves) j (rw (d .moves) l)
-
-      go : (o : Owner) → ownerAt a v ≡ o → Dec (x .cost ≡ 0) → Kind o x
-      go controller own (yes z) = inl z
-      go controller own (no z) = inr (omega (arith, d .well .kind x mem))
-      go environment own (yes z) = z
-      go environment own (no z) =
-          let one : x .cost ≡ 1 = omega (arith, d .well .kind x mem) in
-          let same : disturbanceMove v (x .to) ≡ x = λ i. record { cost = sym one i; from = sym f i; to = x .to } in
-          absurd (rw own at (d .well .disturbed v (x .to) (Memᴰ·cast same mem)))
-
-  -- some move of v shows it where some move passes the test, if the two agree on its moves
-  module _ (o : Owner) (own : ownerAt a v ≡ o) where
-    pub flag-is : (field : Seen → Bool) (p : Move → Bool) → ((x : Move) → Kind o x → x .from ≡ v → field (moveShows a (valueAt s) (choiceAt s) (stepAt s) o v x) ≡ p x)
-        → ((x : Move) → eqb (x .from) v ≡ false → p x ≡ false) → someShows field s m v ≡ someMove p (a .moves)
-    flag-is field p same other =
-        lines-of a n m (s .owners) (s .costs) (s .froms) (s .tos) d v (λ j. field (shown (lineAt s v) (targetAt s j))) p
-        (λ j l f. ap field (rw own at (move-shows j l)) ∙ same (moveAt a j) (kind o own j l f) f) other
+      at : (j : ℕ) → j < m → moveAt a j .from ≡ v → Dec (moveAt a j .cost ≡ 0)
+          → field (shown (lineAt s v) (targetAt s j)) ≡ (disturbanceFrom v (moveAt a j) && q (moveAt a j .to) || meantFrom v (moveAt a j) && p (moveAt a j .to))
+      at j l f (yes z) =
+          rw (d .cost j l, d .to j l, z, f, eq-eqb v v refl) (meant (moveAt a j .to) 0 (to-inside a n m (s .owners) (s .marks) (s .costs) (s .froms) (s .tos) d j l))
+      at j l f (no z) =
+          let mem = at-member noMove (a .moves) j (rw (d .moves) l) in
+          let counts : moveAt a j .cost ≡ disturbanceCost a v (moveAt a j .to) = sym (rw f at (disturbance-counts a (d .well) (moveAt a j) mem z)) in
+          rw (d .cost j l, d .to j l, ne-eqb (moveAt a j .cost) 0 z, f, eq-eqb v v refl, or-false)
+          (rw counts (disturbance (moveAt a j .to) (to-inside a n m (s .owners) (s .marks) (s .costs) (s .froms) (s .tos) d j l)))

@@ -1,60 +1,21 @@
 -- The walk over positions and their moves: what is known between two positions and between two moves of one, with a law
 -- for each turn. A position's moves lie together, so those among the first i are all of them once a move of a later
 -- position comes, or none is left.
-use Prim.Native.Nat.{ℕ, zero, suc, _+_, _-_, _≤_, _<_}
+use Prim.Native.Nat.{ℕ, _+_, _-_, _≤_, _<_}
 use native.Mathlib.Decide.{ℕ-discrete}
 use native.Mathlib.Omega.{arith}
-use mathlib.Core.Path.{_≡_, refl, sym, ap, subst, _∙_}
+use mathlib.Core.Path.{_≡_, sym, ap, subst, _∙_}
 use mathlib.Core.Logic.{_⊎_, inl, inr}
-use mathlib.Core.Bool.{Bool, true, false, _&&_, _||_, or-false}
+use mathlib.Core.Bool.{Bool, true, false, _||_}
 use lib.ListN.{getD}
-use lib.Dec.{eqb}
 use borrow.Author.Tests.{eq-eqb, ne-eqb}
-use Rattle.game.specs.Summary.{someBelow}
-use Rattle.round.specs.RowLaws.{found, numberAt, some-next}
+use Rattle.rows.specs.Numbers.{numberAt}
+use Rattle.rows.specs.Notes.{found, found-none, found-next, found-all, found-more}
 use Rattle.conditions.specs.Position.{afterMoves, beforeMoves, isController, joined, nothing, shown}
 use Rattle.verdict.specs.Sheet.{Ascending, Sheet, lineAt, rowFault, seenBelow, targetAt}
 use Rattle.conditions.specs.declared.Line.{Line}
 use Rattle.conditions.specs.declared.Target.{Target}
 use Rattle.conditions.specs.declared.Seen.{Seen}
-
--- Searching below a number, and past it
-
-some-none : (p : ℕ → Bool) (i : ℕ) → ((j : ℕ) → j < i → p j ≡ false) → someBelow p i ≡ false
-unfolding someBelow
-some-none p zero h = refl
-some-none p (suc i) h = rw (some-none p i (λ j l. h j (omega arith)), h i (omega arith))
-
-some-stays : (p : ℕ → Bool) (i k : ℕ) → ((j : ℕ) → i ≤ j → j < i + k → p j ≡ false) → someBelow p (i + k) ≡ someBelow p i
-unfolding someBelow
-some-stays p i zero h = let e : i + 0 ≡ i = omega arith in ap (someBelow p) e
-some-stays p i (suc k) h =
-    let e : i + suc k ≡ suc (i + k) = omega arith in
-    ap (someBelow p) e ∙ rw (h (i + k) (omega arith) (omega arith), or-false) (some-stays p i k (λ j l m. h j l (omega arith)))
-
-some-more : (p : ℕ → Bool) (i k : ℕ) → someBelow p i ≡ true → someBelow p (i + k) ≡ true
-unfolding someBelow
-some-more p i zero h = let e : i + 0 ≡ i = omega arith in ap (someBelow p) e ∙ h
-some-more p i (suc k) h = let e : i + suc k ≡ suc (i + k) = omega arith in ap (someBelow p) e ∙ rw (some-more p i k h)
-
-module _ (at : ℕ → ℕ) (q : ℕ → Bool) (v : ℕ) where
-  pub found-none : (i : ℕ) → ((j : ℕ) → j < i → at j < v) → found at q i v ≡ false
-  unfolding found
-  found-none i h = some-none (λ j. eqb (at j) v && q j) i (λ j l. rw (ne-eqb (at j) v (λ e. omega (arith, h j l))))
-
-  pub found-next : (i : ℕ) → at i ≡ v → found at q (i + 1) v ≡ (found at q i v || q i)
-  unfolding found
-  found-next i e = rw (some-next, eq-eqb (at i) v e)
-
-  pub found-all : (i m : ℕ) → i ≤ m → ((j : ℕ) → i ≤ j → j < m → v < at j) → found at q i v ≡ found at q m v
-  unfolding found
-  found-all i m l h =
-      sym (some-stays (λ j. eqb (at j) v && q j) i (m - i) (λ j k x. rw (ne-eqb (at j) v (λ e. omega (arith, h j k (omega arith))))))
-      ∙ ap (someBelow (λ j. eqb (at j) v && q j)) (omega arith)
-
-  pub found-more : (i m : ℕ) → i ≤ m → found at q i v ≡ true → found at q m v ≡ true
-  unfolding found
-  found-more i m l h = ap (someBelow (λ j. eqb (at j) v && q j)) (omega arith) ∙ some-more (λ j. eqb (at j) v && q j) i (m - i) h
 
 -- What is known
 

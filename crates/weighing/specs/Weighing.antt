@@ -6,24 +6,24 @@ use mathlib.Core.Bool.{Bool, true, false, cond, not, _&&_}
 use mathlib.Core.List.{List}
 use lib.ListN.{length, getD}
 use lib.Dec.{leb}
-use Rattle.game.specs.Value.{Value, numberOf, valueOf}
-use Rattle.game.specs.Arena.{Arena, size, ownerAt, positionAt}
+use Rattle.rows.specs.Rows.{RowIs, Filled, Stays, RowsOf}
+use Rattle.rows.specs.Numbers.{numberOf, valueOf, rowValue}
+use Rattle.search.specs.Below.{someBelow}
+use Rattle.game.specs.Value.{Value}
+use Rattle.game.specs.Arena.{Arena, size, ownerAt}
 use Rattle.game.specs.Play.{Legal, positional}
 use Rattle.game.specs.Worth.{WorthIs}
 use Rattle.game.specs.Restrict.{restricted}
 use Rattle.game.specs.Table.{roundValue}
 use Rattle.game.specs.Fault.{legalAs}
-use Rattle.game.specs.Summary.{someBelow}
-use Rattle.game.specs.Rows.{RowIs, Filled}
 use Rattle.chart.specs.Meaning.{arenaOf}
 use Rattle.chart.specs.Examined.{examined}
 use Rattle.chart.specs.declared.Examination.{Examination}
 use Rattle.chart.specs.declared.Examination.the-variants.{Accepted, Refused}
-use Rattle.round.specs.RowLaws.{Stays}
-use Rattle.round.specs.Held.{Decoded}
-use Rattle.summary.specs.Summarize.{rowValue}
 use Rattle.weighing.specs.declared.Weighed.{Weighed}
-use Rattle.weighing.specs.declared.Weighed.the-variants.{Done, Refused as Turned, Short, Choice}
+use Rattle.refusal.specs.declared.Refusal.{Refusal}
+use Rattle.refusal.specs.declared.Refusal.the-variants.{Chart as OfChart, Short, Choice}
+use Rattle.weighing.specs.declared.Weighed.the-variants.{Done, Refused as Turned}
 
 -- each choice of the first n positions is a meant target at O, 65,535 at L: the test of condition 3, which looks at no
 -- value and no step
@@ -38,23 +38,23 @@ pub record WorthRow (a : Arena) (n : ℕ) (choices worths worths′ : List ℕ) 
 
 -- the rounds of the restricted arena, where the choices are legal
 pub record RestrictedSolved (n m : ℕ) (owners marks costs froms tos choices worths worths′ : List ℕ) : Type 0 where
-  pub rows : (a : Arena) → Decoded a n m owners costs froms tos → RowIs marks n (λ v. positionAt a v .mark) → Legal a (rowValue choices)
+  pub rows : (a : Arena) → RowsOf a n m owners marks costs froms tos → Legal a (rowValue choices)
       → RowIs worths′ n (λ v. numberOf (roundValue (restricted a (rowValue choices)) v))
   pub stay : Stays n worths worths′
 
 -- weighing decoded rows: whether the choices are legal, and then the worths
 pub record RowsWeighed (n m : ℕ) (owners marks costs froms tos choices worths worths′ : List ℕ) (r : Bool) : Type 0 where
-  pub answer : (a : Arena) → Decoded a n m owners costs froms tos → r ≡ legalRow a (rowValue choices) n
-  pub taken : (a : Arena) → Decoded a n m owners costs froms tos → RowIs marks n (λ v. positionAt a v .mark) → r ≡ true → WorthRow a n choices worths worths′
+  pub answer : (a : Arena) → RowsOf a n m owners marks costs froms tos → r ≡ legalRow a (rowValue choices) n
+  pub taken : (a : Arena) → RowsOf a n m owners marks costs froms tos → r ≡ true → WorthRow a n choices worths worths′
   pub refused : r ≡ false → worths′ ≡ worths
 
 -- the answer to a chart, a row of choices, and a row of worths of this length
 unfoldable pub weighedBy : Examination → Arena → List ℕ → ℕ → Weighed
-weighedBy (Refused r) a choices worths = Turned r
+weighedBy (Refused r) a choices worths = Turned (OfChart r)
 weighedBy (Accepted chart) a choices worths =
     cond (leb (chart .positions) (length choices) && leb (chart .positions) worths)
-    (cond (legalRow a (rowValue choices) (size a)) Done Choice)
-    Short
+    (cond (legalRow a (rowValue choices) (size a)) Done (Turned Choice))
+    (Turned Short)
 
 unfoldable pub weighed : List ℕ → List ℕ → ℕ → Weighed
 weighed text choices worths = weighedBy (examined text) (arenaOf text) choices worths
@@ -63,4 +63,4 @@ weighed text choices worths = weighedBy (examined text) (arenaOf text) choices w
 pub record WeighedIs (text choices worths worths′ : List ℕ) (r : Weighed) : Type 0 where
   pub answer : r ≡ weighed text choices (length worths)
   pub taken : r ≡ Done → WorthRow (arenaOf text) (size (arenaOf text)) choices worths worths′
-  pub refused : (r ≡ Done → ⊥) → worths′ ≡ worths
+  pub refused : (x : Refusal) → r ≡ Turned x → worths′ ≡ worths

@@ -4,44 +4,42 @@ use Prim.Native.Nat.{ℕ, zero, suc, _+_, _≤_, _<_}
 use native.Mathlib.Decide.{ℕ-discrete}
 use native.Mathlib.Omega.{arith}
 use mathlib.Core.Path.{_≡_, refl, sym, ap, ap₂, subst, _∙_}
-use mathlib.Core.Logic.{_↔_}
-use mathlib.Core.Bool.{Bool, true, false, cond, not, _&&_, _||_, and-true, and-false, Bool·not-not}
+use mathlib.Core.Bool.{Bool, true, false, cond, not, _&&_, and-true, and-false}
 use mathlib.Core.List.{List, [], _∷_, _++_, map, map-append, append-nil}
 use lib.ListN.{length, getD, take, length-map, length-append, List·getD-append}
 use lib.Seq.{take-suc, take-all, getD-append-seam}
 use lib.Dec.{T, eqb, leb}
 use borrow.Author.Tests.{eq-eqb, ne-eqb}
-use Rattle.game.specs.Value.{Value, fin, ever, eqV, numberOf, valueOf}
-use Rattle.game.specs.ValueLaws.{Fits, value-of-number}
-use Rattle.game.specs.Arena.{Arena, Move, Owner, controller, environment, WellFormed, size, positionAt, ownerAt, moveAt, noMove}
+use Rattle.rows.specs.RowsLaws.{from-inside, to-inside, lines-of}
+use Rattle.rows.specs.Rows.{RowIs, ownerNumber, RowsOf}
+use Rattle.rows.specs.Numbers.{numberOf, valueOf, numberAt, rowValue}
+use Rattle.rows.specs.NumberLaws.{Fits, value-of-number, same-values, ever-number}
+use Rattle.rows.specs.Notes.{Noted}
+use Rattle.search.specs.Below.{someBelow, some-same, some-hit, some-none, bit, bit-one}
+use Rattle.game.specs.Value.{Value, fin, eqV}
+use Rattle.game.specs.Arena.{Arena, Move, Owner, controller, environment, WellFormed, size, ownerAt, moveAt, noMove}
 use Rattle.game.specs.Play.{Legal, LegalAt, positional}
-use Rattle.game.specs.Worth.{WorthIs, IsValue}
+use Rattle.game.specs.Worth.{WorthIs}
 use Rattle.game.specs.Restrict.{isController, stays, keep, restricted}
 use Rattle.game.specs.RestrictLaws.{restricted-is-well-formed, restricted-value-is-worth}
 use Rattle.game.specs.RoundValues.{rounds-give-the-values}
-use Rattle.game.specs.Table.{table, placementAt, valueIn, roundValue, someMove, meantFrom}
+use Rattle.game.specs.Table.{roundValue, meantFrom}
 use Rattle.game.specs.Fault.{legalAs}
 use Rattle.game.specs.ConditionTests.{legal-test}
-use Rattle.game.specs.Summary.{someBelow}
-use Rattle.game.specs.Rows.{RowIs, ownerNumber}
 use Rattle.chart.specs.Meaning.{arenaOf}
 use Rattle.chart.specs.Examined.{examined}
 use Rattle.chart.specs.Accepted.{accepted-size}
-use Rattle.chart.specs.declared.Chart.{Chart}
+use Rattle.rows.specs.declared.Chart.{Chart}
+use Rattle.refusal.specs.declared.Misdrawn.{Misdrawn}
 use Rattle.refusal.specs.declared.Refusal.{Refusal}
+use Rattle.refusal.specs.declared.Refusal.the-variants.{Chart as OfChart, Short, Choice}
 use Rattle.chart.specs.declared.Examination.the-variants.{Accepted, Refused}
-use Rattle.round.specs.RowLaws.{Stays, Noted, found, numberAt, some-hit, some-same}
-use Rattle.round.specs.Round.{bit, Within}
-use Rattle.round.specs.Held.{Holds, Decoded}
 use Rattle.solver.specs.Solving.{Solved}
-use Rattle.round.specs.HeldLaws.{bit-one, from-inside, to-inside, lines-of}
-use Rattle.summary.specs.Summarize.{rowValue}
-use Rattle.summary.specs.SummarizeLaws.{same-values, ever-number}
-use Rattle.value.specs.ValuingLaws.{round-value-fits}
+use Rattle.valuing.specs.ValuingLaws.{round-value-fits}
 use Rattle.restriction.specs.Restriction.{isChosen, isLegal, moveStays, passing, Copied}
 use Rattle.restriction.specs.RestrictionLaws.{passing-length}
 use Rattle.weighing.specs.Weighing.{legalRow, WorthRow, RestrictedSolved, RowsWeighed, weighed, weighedBy, WeighedIs}
-use Rattle.weighing.specs.declared.Weighed.the-variants.{Done, Refused as Turned, Short, Choice}
+use Rattle.weighing.specs.declared.Weighed.the-variants.{Done, Refused as Turned}
 
 -- The moves that stay
 
@@ -92,14 +90,18 @@ passing-below q (suc i) j l = go (q i) l (passing-below q i j)
             let m : j < k = omega arith in
             rw (List·getD-append (passing q i) (i ∷ []) 0 j m) (let h = rec m in omega arith)
 
-module _ (a : Arena) (n m : ℕ) (owners costs froms tos choices : List ℕ) (small : n ≤ 512) (d : Decoded a n m owners costs froms tos) where
+-- no more moves stay than there are
+pub copied-fewer : {m count : ℕ} {owners costs froms tos choices costs′ froms′ tos′ : List ℕ} → Copied owners costs froms tos choices m count costs′ froms′ tos′ → count ≤ m
+copied-fewer {m} {owners} {costs} {froms} {tos} {choices} copied = let e = copied .counted in let b = passing-length (moveStays owners costs froms tos choices) m in omega arith
+
+module _ (a : Arena) (n m : ℕ) (owners marks costs froms tos choices : List ℕ) (d : RowsOf a n m owners marks costs froms tos) where
   abbrev choice : ℕ → Value
   choice = rowValue choices
 
   -- a target as a choice
   target-choice : (x t : ℕ) → t < n → eqV (valueOf x) (fin t) ≡ eqb x t
   unfolding valueOf
-  target-choice x t l = rw (← same-values x t, ne-eqb t 65535 (λ e. omega arith))
+  target-choice x t l = rw (← same-values x t, ne-eqb t 65535 (λ e. omega (arith, d .few-positions)))
 
   owner-test : (v : ℕ) → v < n → eqb (getD owners v 0) 0 ≡ isController (ownerAt a v)
   owner-test v l = rw (d .owner v l) (go (ownerAt a v))
@@ -111,7 +113,7 @@ module _ (a : Arena) (n m : ℕ) (owners costs froms tos choices : List ℕ) (sm
   stays-is : (j : ℕ) → j < m → moveStays owners costs froms tos choices j ≡ stays a choice (moveAt a j)
   unfolding moveStays stays
   stays-is j l =
-      rw (d .cost j l, d .from j l, d .to j l, owner-test (moveAt a j .from) (from-inside a n m owners costs froms tos d j l), ← target-choice (getD choices (moveAt a j .from) 0) (moveAt a j .to) (to-inside a n m owners costs froms tos d j l))
+      rw (d .cost j l, d .from j l, d .to j l, owner-test (moveAt a j .from) (from-inside a n m owners marks costs froms tos d j l), ← target-choice (getD choices (moveAt a j .from) 0) (moveAt a j .to) (to-inside a n m owners marks costs froms tos d j l))
 
   kept-moves : restricted a choice .moves ≡ map (λ j. moveAt a j) (passing (moveStays owners costs froms tos choices) m)
   unfolding restricted
@@ -138,24 +140,33 @@ module _ (a : Arena) (n m : ℕ) (owners costs froms tos choices : List ℕ) (sm
         let e = copied .counted in
         ap (λ (ms : List Move). getD ms j noMove) kept-moves ∙ map-at (λ i. moveAt a i) (passing q m) j noMove (omega arith)
 
-    pub copied-decoded : Legal a choice → Decoded (restricted a choice) n count owners costs′ froms′ tos′
+    pub copied-rows : Legal a choice → count ≤ length costs′ → count ≤ length froms′ → count ≤ length tos′ → RowsOf (restricted a choice) n count owners marks costs′ froms′ tos′
     unfolding restricted lineOf q
-    copied-decoded legal =
+    copied-rows legal lc lf lt =
+        let fewer = copied-fewer copied in
         record {
           well = restricted-is-well-formed a choice (d .well) legal;
           positions = d .positions;
           moves = ap length kept-moves ∙ length-map (passing q m) (λ j. moveAt a j) ∙ sym (copied .counted);
+          few-positions = d .few-positions;
+          few-moves = omega (arith, d .few-moves);
           owner = d .owner;
+          mark = d .mark;
           cost = λ j l. copied .cost j (rw (copied .counted) at l) ∙ d .cost (lineOf j) (line-inside j l) ∙ ap (λ (x : Move). x .cost) (sym (kept-move j l));
           from = λ j l. copied .from j (rw (copied .counted) at l) ∙ d .from (lineOf j) (line-inside j l) ∙ ap (λ (x : Move). x .from) (sym (kept-move j l));
           to = λ j l. copied .to j (rw (copied .counted) at l) ∙ d .to (lineOf j) (line-inside j l) ∙ ap (λ (x : Move). x .to) (sym (kept-move j l));
+          owners-row = d .owners-row;
+          marks-row = d .marks-row;
+          costs-row = lc;
+          froms-row = lf;
+          tos-row = lt;
         }
 
     -- the rounds of the copied moves are the restricted arena's
-    pub solved-worths : {marks worths worths′ steps steps′ : List ℕ} → RowIs marks n (λ v. positionAt a v .mark) → Legal a choice
+    pub solved-worths : {worths worths′ steps steps′ : List ℕ} → Legal a choice → count ≤ length costs′ → count ≤ length froms′ → count ≤ length tos′
         → Solved n count owners marks costs′ froms′ tos′ worths steps worths′ steps′ → RowIs worths′ n (λ v. numberOf (roundValue (restricted a choice) v))
-    unfolding roundValue restricted
-    solved-worths marked legal solved = solved .rows (restricted a choice) (copied-decoded legal) marked .value
+    unfolding roundValue
+    solved-worths legal lc lf lt solved = solved .rows (restricted a choice) (copied-rows legal lc lf lt) .value
 
   -- The choices
 
@@ -170,14 +181,14 @@ module _ (a : Arena) (n m : ℕ) (owners costs froms tos choices : List ℕ) (sm
 
       same : (j : ℕ) → j < m → moveAt a j .from ≡ v → isChosen costs froms tos choices j ≡ into (moveAt a j)
       same j k z =
-          rw (d .cost j k, d .from j k, d .to j k, eq-eqb (moveAt a j .from) v z, and-true, target-choice (getD choices v 0) (moveAt a j .to) (to-inside a n m owners costs froms tos d j k), z)
+          rw (d .cost j k, d .from j k, d .to j k, eq-eqb (moveAt a j .from) v z, and-true, target-choice (getD choices v 0) (moveAt a j .to) (to-inside a n m owners marks costs froms tos d j k), z)
 
       other : (x : Move) → eqb (x .from) v ≡ false → into x ≡ false
       other x e = rw (e, and-false)
 
       go : (o : Owner) → ownerAt a v ≡ o
           → cond (eqb (ownerNumber o) 0) (eqb (getD flags v 0) 1) (eqb (getD choices v 0) 65535) ≡ legalAs a choice choice choice o v
-      go controller own = rw (noted .notes v l) (bit-one _ ∙ lines-of a n m owners costs froms tos d v (isChosen costs froms tos choices) into same other)
+      go controller own = rw (noted .notes v l) (bit-one _ ∙ lines-of a n m owners marks costs froms tos d v (isChosen costs froms tos choices) into same other)
       go environment own = sym (ever-number (getD choices v 0))
 
   pub legal-row-is : (flags : List ℕ) → Noted n (numberAt froms) (isChosen costs froms tos choices) (λ v. bit) m flags
@@ -198,15 +209,16 @@ legal-row-sound a choice e v l = go (legalAs a choice choice choice (ownerAt a v
         let z : _≡_ {A = ℕ} 0 1 = cc in
         absurd (omega arith)
 
-none-below : (p : ℕ → Bool) (n : ℕ) → ((v : ℕ) → v < n → p v ≡ false) → someBelow p n ≡ false
-unfolding someBelow
-none-below p zero h = refl
-none-below p (suc n) h = rw (none-below p n (λ v l. h v (omega arith)), h n (omega arith))
+-- legal choices, by the code's test
+pub flags-say-legal : (a : Arena) (n m : ℕ) (owners marks costs froms tos choices : List ℕ) (d : RowsOf a n m owners marks costs froms tos) (flags : List ℕ)
+    → Noted n (numberAt froms) (isChosen costs froms tos choices) (λ v. bit) m flags → not (someBelow (λ v. not (isLegal owners choices flags v)) n) ≡ true → Legal a (rowValue choices)
+flags-say-legal a n m owners marks costs froms tos choices d flags noted e =
+    legal-row-sound a (rowValue choices) (rw (d .positions) (sym (legal-row-is a n m owners marks costs froms tos choices d flags noted) ∙ e))
 
 pub legal-row-complete : (a : Arena) (choice : ℕ → Value) → Legal a choice → legalRow a choice (size a) ≡ true
 unfolding legalRow
 legal-row-complete a choice legal =
-    ap not (none-below (λ u. not (legalAs a choice choice choice (ownerAt a u) u)) (size a)
+    ap not (some-none (λ u. not (legalAs a choice choice choice (ownerAt a u) u)) (size a)
     (λ v l. ap not (true-is (legalAs a choice choice choice (ownerAt a v) v) (legal-test a choice choice choice (ownerAt a v) v .1 (legal v l)))))
   where
     true-is : (b : Bool) → T b → b ≡ true
@@ -227,13 +239,13 @@ worths-fit a wf choice legal few v = round-value-fits (restricted a choice) (res
 
 -- The answers over rows
 
-module _ {n m : ℕ} {owners marks costs froms tos choices worths : List ℕ} (small : n ≤ 512) where
+module _ {n m : ℕ} {owners marks costs froms tos choices worths : List ℕ} where
   module _ {flags : List ℕ} (noted : Noted n (numberAt froms) (isChosen costs froms tos choices) (λ v. bit) m flags) where
     pub weighed-illegal : not (someBelow (λ v. not (isLegal owners choices flags v)) n) ≡ false → RowsWeighed n m owners marks costs froms tos choices worths worths false
     weighed-illegal e =
         record {
-          answer = λ a d. sym e ∙ legal-row-is a n m owners costs froms tos choices small d flags noted;
-          taken = λ a d marked f. let z : _≡_ {A = ℕ} 0 1 = cc in absurd (omega arith);
+          answer = λ a d. sym e ∙ legal-row-is a n m owners marks costs froms tos choices d flags noted;
+          taken = λ a d f. let z : _≡_ {A = ℕ} 0 1 = cc in absurd (omega arith);
           refused = λ f. refl;
         }
 
@@ -242,17 +254,18 @@ module _ {n m : ℕ} {owners marks costs froms tos choices worths : List ℕ} (s
         → RowsWeighed n m owners marks costs froms tos choices worths worths′ true
     weighed-legal {worths′} e solved same =
         record {
-          answer = λ a d. sym e ∙ legal-row-is a n m owners costs froms tos choices small d flags noted;
-          taken = λ a d marks f. worth-row a d marks;
+          answer = λ a d. sym e ∙ legal-row-is a n m owners marks costs froms tos choices d flags noted;
+          taken = λ a d f. worth-row a d;
           refused = λ f. let z : _≡_ {A = ℕ} 0 1 = cc in absurd (omega arith);
         }
       where
-        worth-row : (a : Arena) → Decoded a n m owners costs froms tos → RowIs marks n (λ v. positionAt a v .mark) → WorthRow a n choices worths worths′
-        worth-row a d marks =
+        worth-row : (a : Arena) → RowsOf a n m owners marks costs froms tos → WorthRow a n choices worths worths′
+        worth-row a d =
             let c = rowValue choices in
-            let legal : Legal a c = legal-row-sound a c (rw (d .positions) (sym (legal-row-is a n m owners costs froms tos choices small d flags noted) ∙ e)) in
-            let row = solved .rows a d marks legal in
+            let legal : Legal a c = flags-say-legal a n m owners marks costs froms tos choices d flags noted e in
+            let row = solved .rows a d legal in
             let p = d .positions in
+            let few = d .few-positions in
             record {
               legal = legal;
               worth = λ v l.
@@ -262,51 +275,35 @@ module _ {n m : ℕ} {owners marks costs froms tos choices worths : List ℕ} (s
               row = record { row = row; rest = solved .stay; same-length = same };
             }
 
--- copied moves are within their rows
-pub copied-within : {n m count : ℕ} {owners costs froms tos choices costs′ froms′ tos′ : List ℕ} → Within n m costs froms tos
+pub restricted-solved : {n m count : ℕ} {owners marks costs froms tos choices costs′ froms′ tos′ worths worths′ steps steps′ : List ℕ}
     → Copied owners costs froms tos choices m count costs′ froms′ tos′ → count ≤ length costs′ → count ≤ length froms′ → count ≤ length tos′
-    → Within n count costs′ froms′ tos′
-copied-within {n} {m} {owners} {costs} {froms} {tos} {choices} w copied lc lf lt =
-    let q = moveStays owners costs froms tos choices in
-    let e = copied .counted in
-    record {
-      costs-row = lc;
-      froms-row = lf;
-      tos-row = lt;
-      from-inside = λ j l. rw (copied .from j (omega arith)) (w .from-inside (getD (passing q m) j 0) (passing-below q m j (omega arith)));
-      to-inside = λ j l. rw (copied .to j (omega arith)) (w .to-inside (getD (passing q m) j 0) (passing-below q m j (omega arith)));
-    }
-
--- no more moves stay than there are
-pub copied-fewer : {m count : ℕ} {owners costs froms tos choices costs′ froms′ tos′ : List ℕ} → Copied owners costs froms tos choices m count costs′ froms′ tos′ → count ≤ m
-copied-fewer {m} {owners} {costs} {froms} {tos} {choices} copied = let e = copied .counted in let b = passing-length (moveStays owners costs froms tos choices) m in omega arith
-
-pub restricted-solved : {n m count : ℕ} {owners marks costs froms tos choices costs′ froms′ tos′ worths worths′ steps steps′ : List ℕ} → n ≤ 512
-    → Copied owners costs froms tos choices m count costs′ froms′ tos′ → Solved n count owners marks costs′ froms′ tos′ worths steps worths′ steps′
+    → Solved n count owners marks costs′ froms′ tos′ worths steps worths′ steps′
     → RestrictedSolved n m owners marks costs froms tos choices worths worths′
-restricted-solved {n} {m} {count} {owners} {costs} {froms} {tos} {choices} {costs′} {froms′} {tos′} small copied solved =
+restricted-solved {n} {m} {count} {owners} {marks} {costs} {froms} {tos} {choices} {costs′} {froms′} {tos′} copied lc lf lt solved =
     record {
-      rows = λ a d marks legal. solved-worths a n m owners costs froms tos choices small d count costs′ froms′ tos′ copied marks legal solved;
+      rows = λ a d legal. solved-worths a n m owners marks costs froms tos choices d count costs′ froms′ tos′ copied legal lc lf lt solved;
       stay = solved .values-stay;
     }
 
 -- The answers of the job
 
 module _ {text choices worths : List ℕ} where
-  pub weighed-refused : {r : Refusal} → examined text ≡ Refused r → WeighedIs text choices worths worths (Turned r)
+  -- a refusal leaves the row
+  turned : {worths′ : List ℕ} (x : Refusal) → Turned x ≡ weighed text choices (length worths) → worths′ ≡ worths → WeighedIs text choices worths worths′ (Turned x)
+  turned x e same = record { answer = e; taken = λ z. let w : _≡_ {A = ℕ} 0 1 = cc in absurd (omega arith); refused = λ y z. same }
+
+  pub weighed-refused : {r : Misdrawn} → examined text ≡ Refused r → WeighedIs text choices worths worths (Turned (OfChart r))
   unfolding weighed weighedBy
-  weighed-refused e =
-      record { answer = rw e; taken = λ z. let w : _≡_ {A = ℕ} 0 1 = cc in absurd (omega arith); refused = λ h. refl }
+  weighed-refused {r} e = turned (OfChart r) (rw e) refl
 
   pub weighed-short : {chart : Chart} → examined text ≡ Accepted chart → (leb (chart .positions) (length choices) && leb (chart .positions) (length worths)) ≡ false
-      → WeighedIs text choices worths worths Short
+      → WeighedIs text choices worths worths (Turned Short)
   unfolding weighed weighedBy
-  weighed-short e short =
-      record { answer = rw (e, short); taken = λ z. let w : _≡_ {A = ℕ} 0 1 = cc in absurd (omega arith); refused = λ h. refl }
+  weighed-short e short = turned Short (rw (e, short)) refl
 
   module _ {chart : Chart} {m : ℕ} {owners marks costs froms tos worths′ : List ℕ} {r : Bool} (e : examined text ≡ Accepted chart)
       (room : (leb (chart .positions) (length choices) && leb (chart .positions) (length worths)) ≡ true)
-      (d : Decoded (arenaOf text) (chart .positions) m owners costs froms tos) (marked : RowIs marks (chart .positions) (λ v. positionAt (arenaOf text) v .mark))
+      (d : RowsOf (arenaOf text) (chart .positions) m owners marks costs froms tos)
       (weighing : RowsWeighed (chart .positions) m owners marks costs froms tos choices worths worths′ r) where
     pub weighed-taken : r ≡ true → WeighedIs text choices worths worths′ Done
     unfolding weighed weighedBy
@@ -315,17 +312,13 @@ module _ {text choices worths : List ℕ} where
         let fair : legalRow (arenaOf text) (rowValue choices) (size (arenaOf text)) ≡ true = rw n (sym (weighing .answer (arenaOf text) d) ∙ fact) in
         record {
           answer = rw (e, room, fair);
-          taken = λ z. rw n (weighing .taken (arenaOf text) d marked fact);
-          refused = λ h. absurd (h refl);
+          taken = λ z. rw n (weighing .taken (arenaOf text) d fact);
+          refused = λ x z. let w : _≡_ {A = ℕ} 0 1 = cc in absurd (omega arith);
         }
 
-    pub weighed-unfair : r ≡ false → WeighedIs text choices worths worths′ Choice
+    pub weighed-unfair : r ≡ false → WeighedIs text choices worths worths′ (Turned Choice)
     unfolding weighed weighedBy
     weighed-unfair fact =
         let n = accepted-size text chart e in
         let unfair : legalRow (arenaOf text) (rowValue choices) (size (arenaOf text)) ≡ false = rw n (sym (weighing .answer (arenaOf text) d) ∙ fact) in
-        record {
-          answer = rw (e, room, unfair);
-          taken = λ z. let w : _≡_ {A = ℕ} 0 1 = cc in absurd (omega arith);
-          refused = λ h. weighing .refused fact;
-        }
+        turned Choice (rw (e, room, unfair)) (weighing .refused fact)

@@ -1,7 +1,10 @@
 // Weighing: a chart and a row of choices into the worths of the positional controller that makes them.
 ghost use Prim.Native.Nat.{_≤_};
 ghost use lib.ListN.{length};
-ghost use Rattle.round.specs.Round.{Within};
+ghost use Rattle.game.specs.Play.{Legal};
+ghost use Rattle.game.specs.Arena.{Arena};
+ghost use Rattle.rows.specs.Numbers.{rowValue};
+ghost use Rattle.rows.specs.Rows.{ChartRows, RowsOf};
 ghost use Rattle.weighing.specs.Weighing.{RestrictedSolved, RowsWeighed, WeighedIs};
 use chart::Examination;
 use decode::load;
@@ -9,26 +12,25 @@ use refusal::Refusal;
 use restriction::all_legal;
 use restriction::flag_chosen;
 use restriction::restrict;
-use solver::solve::solve;
+use rows::Chart;
+use solver::solve;
 
-// What Weighing answers: that the worths are there, the chart's refusal, 10: a row shorter than the count of positions, or
-// 12: a choice that is not legal.
+// What Weighing answers: that the worths are there, or a refusal: the chart's, 10 where a row is shorter than the count of positions,
+// or 12 where a choice is not legal.
 pub enum Weighed {
     Done,
     Refused(Refusal),
-    Short,
-    Choice,
 }
 
 // Weighs the choices into a lent row. What lies past the last position's number stays, and on a refusal everything does.
 pub fn weigh_chart(text: &[u8], choices: &[u16], worths: &mut [u16]) -> Weighed
     ensures { λ r. ⌜ WeighedIs (now (text .entry)) (now (choices .entry)) (now (worths .entry)) (now (worths .exit)) r ⌝ }
 {
-    let mut owners = [0u8; 512];
-    let mut marks = [0u8; 512];
-    let mut costs = [0u8; 4096];
-    let mut froms = [0u16; 4096];
-    let mut tos = [0u16; 4096];
+    let mut owners = [0u8; Chart::POSITIONS];
+    let mut marks = [0u8; Chart::POSITIONS];
+    let mut costs = [0u8; Chart::MOVES];
+    let mut froms = [0u16; Chart::MOVES];
+    let mut tos = [0u16; Chart::MOVES];
     match load(
         text,
         &mut owners,
@@ -37,26 +39,26 @@ pub fn weigh_chart(text: &[u8], choices: &[u16], worths: &mut [u16]) -> Weighed
         &mut froms,
         &mut tos,
     ) {
-        Examination::Refused(r) => Weighed::Refused(r),
+        Examination::Refused(r) => Weighed::Refused(Refusal::Chart(r)),
         Examination::Accepted(chart) => {
             let n = chart.positions;
             let m = chart.moves;
             if choices.len() < n {
-                return Weighed::Short;
+                return Weighed::Refused(Refusal::Short);
             }
             if worths.len() < n {
-                return Weighed::Short;
+                return Weighed::Refused(Refusal::Short);
             }
             if weigh_rows(n, m, &owners, &marks, &costs, &froms, &tos, choices, worths) {
                 return Weighed::Done;
             }
-            Weighed::Choice
+            Weighed::Refused(Refusal::Choice)
         }
     }
 }
 
-// Weighs decoded rows by the solver, over the moves that stay; or answers that a choice is not legal. The bounds keep every index
-// within its row.
+// Weighs decoded rows by the solver, over the moves that stay; or answers that a choice is not legal. The rows hold a
+// chart, and there is room for n worths.
 pub fn weigh_rows(
     n: usize,
     m: usize,
@@ -68,10 +70,10 @@ pub fn weigh_rows(
     choices: &[u16],
     worths: &mut [u16],
 ) -> bool
-    requires { ⌜ Within n m (now costs) (now froms) (now tos) × (n ≤ 512) × (m ≤ 4096) × (n ≤ length (now owners)) × (n ≤ length (now marks)) × (n ≤ length (now choices)) × (n ≤ length (now worths)) ⌝ }
+    requires { ⌜ ChartRows n m (now owners) (now marks) (now costs) (now froms) (now tos) × (n ≤ length (now choices)) × (n ≤ length (now worths)) ⌝ }
     ensures { λ r. ⌜ RowsWeighed n m (now (owners .entry)) (now (marks .entry)) (now (costs .entry)) (now (froms .entry)) (now (tos .entry)) (now (choices .entry)) (now (worths .entry)) (now (worths .exit)) r ⌝ }
 {
-    let mut flags = [0u8; 512];
+    let mut flags = [0u8; Chart::POSITIONS];
     flag_chosen(n, m, costs, froms, tos, choices, &mut flags);
     if !all_legal(n, owners, choices, &flags) {
         return false;
@@ -80,7 +82,7 @@ pub fn weigh_rows(
     true
 }
 
-// Solves the moves that stay when the controller makes these choices.
+// Solves the moves that stay when the controller makes these choices, which are legal.
 fn solve_restricted(
     n: usize,
     m: usize,
@@ -92,13 +94,13 @@ fn solve_restricted(
     choices: &[u16],
     worths: &mut [u16],
 )
-    requires { ⌜ Within n m (now costs) (now froms) (now tos) × (n ≤ 512) × (m ≤ 4096) × (n ≤ length (now owners)) × (n ≤ length (now marks)) × (n ≤ length (now choices)) × (n ≤ length (now worths)) ⌝ }
+    requires { ⌜ ((a : Arena) × (RowsOf a n m (now owners) (now marks) (now costs) (now froms) (now tos) × Legal a (rowValue (now choices)))) × (n ≤ length (now choices)) × (n ≤ length (now worths)) ⌝ }
     ensures { λ _. ⌜ RestrictedSolved n m (now (owners .entry)) (now (marks .entry)) (now (costs .entry)) (now (froms .entry)) (now (tos .entry)) (now (choices .entry)) (now (worths .entry)) (now (worths .exit)) ⌝ }
 {
-    let mut steps = [0u16; 512];
-    let mut costskept = [0u8; 4096];
-    let mut fromskept = [0u16; 4096];
-    let mut toskept = [0u16; 4096];
+    let mut steps = [0u16; Chart::POSITIONS];
+    let mut costskept = [0u8; Chart::MOVES];
+    let mut fromskept = [0u16; Chart::MOVES];
+    let mut toskept = [0u16; Chart::MOVES];
     let count = restrict(
         n,
         m,

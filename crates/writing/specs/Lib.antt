@@ -1,3 +1,3 @@
 pub mod Writing
-pub mod ReadBack
+pub mod Ranges
 pub mod WritingLaws

@@ -6,43 +6,38 @@ use mathlib.Core.Bool.{cond}
 use mathlib.Core.List.{List, _++_}
 use lib.ListN.{length, drop}
 use lib.Dec.{leb}
-use Rattle.game.specs.Value.{numberOf}
-use Rattle.game.specs.Arena.{Arena, size, positionAt}
+use Rattle.rows.specs.declared.FirstLine.{FirstLine}
+use Rattle.rows.specs.FirstLine.{firstLineOf}
+use Rattle.rows.specs.Rows.{RowsOf}
+use Rattle.game.specs.Arena.{Arena, size}
 use Rattle.game.specs.Table.{roundValue, roundStep}
 use Rattle.game.specs.Best.{bestAt}
-use Rattle.game.specs.Summary.{pairCount, highest, everCount}
-use Rattle.game.specs.Rows.{RowIs}
 use Rattle.chart.specs.Meaning.{arenaOf}
 use Rattle.chart.specs.Examined.{examined}
 use Rattle.chart.specs.declared.Examination.{Examination}
 use Rattle.chart.specs.declared.Examination.the-variants.{Accepted, Refused}
-use Rattle.round.specs.Held.{Decoded}
-use Rattle.summary.specs.declared.Summary.{Summary}
 use Rattle.plate.specs.Text.{plateText}
 use Rattle.writing.specs.declared.Written.{Written}
-use Rattle.writing.specs.declared.Written.the-variants.{Length, Refused as Turned, Short}
+use Rattle.refusal.specs.declared.Refusal.{Refusal}
+use Rattle.refusal.specs.declared.Refusal.the-variants.{Chart as OfChart, Short}
+use Rattle.writing.specs.declared.Written.the-variants.{Length, Refused as Turned}
 
--- the numbers of the first line
-unfoldable pub summaryOf : Arena → Summary
-summaryOf a =
-    record {
-      rounds = pairCount (roundValue a) (roundStep a) (size a);
-      highest = numberOf (highest (roundValue a) (size a));
-      evers = everCount (roundValue a) (size a);
-    }
+-- the first line's numbers, of the rounds
+abbrev pub roundsFirstLine : Arena → FirstLine
+roundsFirstLine a = firstLineOf (size a) (roundValue a) (roundStep a)
 
 -- the plate of an arena: its rounds' values and steps, and document 01's choice
 unfoldable pub plateOf : Arena → List ℕ
-plateOf a = plateText (size a) (summaryOf a) (roundValue a) (bestAt a (roundValue a)) (roundStep a)
+plateOf a = plateText (size a) (roundsFirstLine a) (roundValue a) (bestAt a (roundValue a)) (roundStep a)
 
 -- writing the plate of decoded rows
 pub record PlateWritten (n m : ℕ) (owners marks costs froms tos out out′ : List ℕ) : Type 0 where
-  pub bytes : (a : Arena) → Decoded a n m owners costs froms tos → RowIs marks n (λ v. positionAt a v .mark) → out′ ≡ plateOf a ++ drop ((n + 1) * 22) out
+  pub bytes : (a : Arena) → RowsOf a n m owners marks costs froms tos → out′ ≡ plateOf a ++ drop ((n + 1) * 22) out
 
 -- the answer to a chart and a buffer of this length
 unfoldable pub writtenBy : Examination → ℕ → Written
-writtenBy (Refused r) room = Turned r
-writtenBy (Accepted chart) room = cond (leb ((chart .positions + 1) * 22) room) (Length ((chart .positions + 1) * 22)) Short
+writtenBy (Refused r) room = Turned (OfChart r)
+writtenBy (Accepted chart) room = cond (leb ((chart .positions + 1) * 22) room) (Length ((chart .positions + 1) * 22)) (Turned Short)
 
 unfoldable pub written : List ℕ → ℕ → Written
 written text room = writtenBy (examined text) room
@@ -51,4 +46,4 @@ written text room = writtenBy (examined text) room
 pub record WrittenIs (text out out′ : List ℕ) (r : Written) : Type 0 where
   pub answer : r ≡ written text (length out)
   pub taken : (k : ℕ) → r ≡ Length k → out′ ≡ plateOf (arenaOf text) ++ drop k out
-  pub refused : ((k : ℕ) → r ≡ Length k → ⊥) → out′ ≡ out
+  pub refused : (x : Refusal) → r ≡ Turned x → out′ ≡ out

@@ -1,22 +1,18 @@
 -- `dushemqa_check` meets its contract: the job's answer, in numbers.
-use borrow.Author.Needs.{needs}
 use mathlib.Core.Path.{_∙_, ap}
-use Rattle.audit.specs.Checking.{numbersOf}
+use Rattle.answers.specs.Numbers.{checkedNumbers}
+use borrow.Author.Needs.{needs}
 use Rattle.capi.proofs.dushemqa_check.Statement.{statement}
 use Rattle.capi.proofs.dushemqa_check.Tie as tie
-use Rattle.capi.proofs.dushemqa_check.Reads as reads
-use Rattle.capi.proofs.dushemqa_check.Lts as lts
-use Rattle.audit.proofs.Checked.numbers.Reads as numbers-reads
-use Rattle.audit.proofs.check.Reads as check-reads
 
 check-requires : tie.Need-check-requires
 check-requires c κs = search needs
 
-numbers-requires : tie.Need-numbers-requires
-numbers-requires c κs = search needs
+checked-numbers-requires : tie.Need-checked-numbers-requires
+checked-numbers-requires c κs = search needs
 
 returns : tie.Need-returns
-returns c = c .numbers .ensures ∙ ap numbersOf (c .before .check .ensures)
+returns c = c .checked-numbers .ensures ∙ ap checkedNumbers (c .before .check .ensures)
 
 pub dushemqa-check-spec : {M : Type 1} → statement M
-dushemqa-check-spec = tie.close (tie.spec check-requires numbers-requires returns)
+dushemqa-check-spec = tie.close (tie.spec check-requires checked-numbers-requires returns)

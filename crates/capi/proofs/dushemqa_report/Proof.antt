@@ -4,10 +4,6 @@ use mathlib.Core.Path.{_∙_, ap}
 use Rattle.answers.specs.Numbers.{reportedNumbers}
 use Rattle.capi.proofs.dushemqa_report.Statement.{statement}
 use Rattle.capi.proofs.dushemqa_report.Tie as tie
-use Rattle.capi.proofs.dushemqa_report.Reads as reads
-use Rattle.capi.proofs.dushemqa_report.Lts as lts
-use Rattle.answers.proofs.reported_numbers.Reads as reported-numbers-reads
-use Rattle.run.proofs.Run.report.Reads as report-reads
 
 report-requires : tie.Need-report-requires
 report-requires c κs = search needs

@@ -4,10 +4,6 @@ use mathlib.Core.Path.{_∙_, ap}
 use Rattle.answers.specs.Numbers.{startedNumbers}
 use Rattle.capi.proofs.dushemqa_start.Statement.{statement}
 use Rattle.capi.proofs.dushemqa_start.Tie as tie
-use Rattle.capi.proofs.dushemqa_start.Reads as reads
-use Rattle.capi.proofs.dushemqa_start.Lts as lts
-use Rattle.answers.proofs.started_numbers.Reads as started-numbers-reads
-use Rattle.run.proofs.Run.start.Reads as start-reads
 
 start-requires : tie.Need-start-requires
 start-requires c κs = search needs

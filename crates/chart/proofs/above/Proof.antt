@@ -1,5 +1,5 @@
 -- `chart::above` meets its contract: the tests say which case of `above` holds.
-use Rattle.field.proofs.Cases.{cases}
+use Rattle.search.proofs.Cases.{cases}
 use Rattle.chart.specs.Examined.{above}
 use Rattle.chart.proofs.above.Statement.{statement}
 use Rattle.chart.proofs.above.Tie as tie

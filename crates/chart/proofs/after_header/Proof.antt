@@ -6,14 +6,12 @@ use mathlib.Core.Bool.{cond}
 use native.Mathlib.Omega.{arith}
 use lib.ListN.{getD, replicate}
 use denote.Ref.{now}
-use Rattle.chart.specs.Examined.{afterHeader, answer, orElse, firstOf, missingAt, meantIn}
+use Rattle.chart.specs.Examined.{afterHeader, answer, orElse, firstFault, missingAt, meantIn}
 use Rattle.chart.specs.Flags.{flags-first, zeros}
 use Rattle.chart.specs.declared.Finding.the-variants.{Clean}
 use borrow.Author.Needs.{needs}
 use Rattle.chart.proofs.after_header.Statement.{statement}
 use Rattle.chart.proofs.after_header.Tie as tie
-use Rattle.chart.proofs.first_fault.Reads as first-fault-reads
-use Rattle.chart.proofs.unflagged.Reads as unflagged-reads
 
 add-first-fault : tie.Need-add-first-fault
 add-first-fault c = search needs
@@ -54,7 +52,7 @@ returns-2 c =
     let clean : called .first-fault .result ≡ Clean = c .before .before .before .before .before .enum-told .given .1 in
     let row = called .first-fault .last .1 .1 .1 .0 in
     let e : a .chart .positions + a .chart .moves - a .chart .positions ≡ a .chart .moves = omega arith in
-    let found : c .before .before .before .unflagged .result ≡ firstOf (missingAt (now (a .text)) (a .chart .positions) (a .chart .moves)) (a .chart .positions) 0 =
+    let found : c .before .before .before .unflagged .result ≡ firstFault (missingAt (now (a .text)) (a .chart .positions) (a .chart .moves)) (a .chart .positions) 0 =
     c .before .before .before .unflagged .ensures
     ∙ flags-first (now (a .text)) row (a .chart .positions) (a .chart .moves)
     (λ v h. called .first-fault .ensures .1 clean v (omega arith)
@@ -70,7 +68,7 @@ returns-3 c =
     let clean : called .first-fault .result ≡ Clean = c .before .before .before .before .enum-told .given .1 in
     let row = called .first-fault .last .1 .1 .1 .0 in
     let e : a .chart .positions + a .chart .moves - a .chart .positions ≡ a .chart .moves = omega arith in
-    let found : c .before .before .unflagged .result ≡ firstOf (missingAt (now (a .text)) (a .chart .positions) (a .chart .moves)) (a .chart .positions) 0 =
+    let found : c .before .before .unflagged .result ≡ firstFault (missingAt (now (a .text)) (a .chart .positions) (a .chart .moves)) (a .chart .positions) 0 =
     c .before .before .unflagged .ensures
     ∙ flags-first (now (a .text)) row (a .chart .positions) (a .chart .moves)
     (λ v h. called .first-fault .ensures .1 clean v (omega arith)

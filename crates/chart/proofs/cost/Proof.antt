@@ -1,5 +1,5 @@
 -- `chart::cost` meets its contract: the test says which case of `costOf` holds.
-use Rattle.field.proofs.Cases.{cases}
+use Rattle.search.proofs.Cases.{cases}
 use Rattle.chart.specs.Meaning.{costOf}
 use Rattle.chart.proofs.cost.Statement.{statement}
 use Rattle.chart.proofs.cost.Tie as tie

@@ -1,17 +1,15 @@
 -- `chart::examine` meets its contract: the tests of the length, then what the header says, then the lines.
-use Rattle.chart.specs.declared.Chart.{Chart}
+use Rattle.rows.specs.declared.Chart.{Chart}
 use Rattle.chart.specs.Header.{header-accepts}
 use Rattle.chart.specs.Text.{positionsOf, movesOf}
 use denote.Ref.{now}
 use native.Mathlib.Omega.{arith}
 use mathlib.Core.Path.{_≡_, sym, ap, _∙_}
-use Rattle.field.proofs.Cases.{cases}
+use Rattle.search.proofs.Cases.{cases}
 use Rattle.chart.specs.Examined.{examined, linesAfter}
 use borrow.Author.Needs.{needs}
 use Rattle.chart.proofs.examine.Statement.{statement}
 use Rattle.chart.proofs.examine.Tie as tie
-use Rattle.chart.proofs.after_header.Reads as after-header-reads
-use Rattle.chart.proofs.header.Reads as header-reads
 
 returns : tie.Need-returns
 unfolding examined linesAfter

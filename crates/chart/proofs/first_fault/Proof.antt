@@ -1,28 +1,26 @@
 -- `chart::first_fault` meets its contract. The invariant: the columns of the line before are at hand, and the first fault of what is
 -- left is the first fault of all. A clean line leaves that as it is, a fault ends it, and with nothing left there is none: the
--- three laws of `firstOf`.
+-- three laws of `firstFrom`.
 use borrow.Author.Needs.{needs}
 use Prim.Native.Nat.{ℕ, _+_, _-_, _≤_, _<_}
 use mathlib.Core.Path.{_≡_, refl, sym, ap, _∙_, subst}
 use native.Mathlib.Omega.{arith}
 use denote.Ref.{now}
-use Rattle.chart.specs.Examined.{firstOf, lineFinding, meantIn, meantLine}
-use Rattle.chart.specs.First.{first-next, first-stop, first-done}
+use Rattle.chart.specs.Examined.{isClean, firstFault, lineFinding, meantIn, meantLine}
+use Rattle.search.specs.First.{first-next, first-stop, first-done}
 use Rattle.chart.proofs.first_fault.Statement.{statement}
 use Rattle.chart.proofs.first_fault.Tie as tie
-use Rattle.chart.proofs.line_fault.Reads as line-fault-reads
-use Rattle.chart.proofs.row_at.Reads as row-at-reads
 use Rattle.chart.specs.Columns.{rowAt, meantRow}
-use Rattle.chart.proofs.flag_row.Reads as flag-row-reads
 use mathlib.Core.Bool.{false, cond}
 use lib.ListN.{length, getD}
 use lib.Dec.{ltb}
 use Rattle.chart.specs.Text.{fromAt}
 use Rattle.chart.specs.Flags.{flag-next}
+use Rattle.chart.specs.declared.Finding.the-variants.{Clean}
 use Rattle.chart.specs.declared.Row.{Row}
 
 abbrev Inv-loop : tie.InvT-loop
-Inv-loop text n last flags₀ line₀ before₀ flags line before = (1 ≤ line) × (line ≤ last + 1) × (before ≡ rowAt text (line - 1)) × (firstOf (lineFinding text n) (last + 1 - line) line ≡ firstOf (lineFinding text n) last 1) × (length flags ≡ length flags₀) × ((v : ℕ) → v < length flags₀ → getD flags v 0 ≡ cond (meantIn text n (line - 1 - n) v) 1 (getD flags₀ v 0))
+Inv-loop text n last flags₀ line₀ before₀ flags line before = (1 ≤ line) × (line ≤ last + 1) × (before ≡ rowAt text (line - 1)) × (firstFault (lineFinding text n) (last + 1 - line) line ≡ firstFault (lineFinding text n) last 1) × (length flags ≡ length flags₀) × ((v : ℕ) → v < length flags₀ → getD flags v 0 ≡ cond (meantIn text n (line - 1 - n) v) 1 (getD flags₀ v 0))
 
 abbrev μ-loop : tie.MeasureT-loop
 μ-loop text n last flags₀ line₀ before₀ flags line before = last + 1 - line
@@ -39,7 +37,7 @@ loop-holds c =
       omega arith,
       omega arith,
       c .row-at .ensures,
-      ap (λ (k : ℕ). firstOf (lineFinding (now (a .text)) (a .n)) k 1) e,
+      ap (λ (k : ℕ). firstFault (lineFinding (now (a .text)) (a .n)) k 1) e,
       refl,
       λ v h. rw z refl,
     )
@@ -60,11 +58,9 @@ returns : tie.Need-returns Inv-loop μ-loop
 returns c =
     let called = c .before .before .before in
     let head = called .before .before .before in
-    let a = head .before .before .before .before .args in (
-      sym
-          (first-stop (lineFinding (now (a .text)) (a .n)) (a .last + 1) (head .loop .line) _ (omega arith)
-          (sym (called .line-fault .ensures) ∙ c .before .r .given .1))
-          ∙ head .loop .inv .3,
+    let a = head .before .before .before .before .args in
+    let found = sym (called .line-fault .ensures) ∙ c .before .r .given .1 in (
+      sym found ∙ sym (first-stop _ (lineFinding (now (a .text)) (a .n)) Clean (a .last + 1) (head .loop .line) (omega arith) (ap isClean found)) ∙ head .loop .inv .3,
       λ e. let z : _≡_ {A = ℕ} 0 1 = cc e in absurd (omega arith),
     )
 
@@ -92,7 +88,7 @@ loop-again c =
       omega arith,
       omega arith,
       rw e (called .before .row-at2 .ensures),
-      first-next (lineFinding (now (a .text)) (a .n)) (a .last + 1) (head .loop .line) (omega arith) (sym (called .line-fault .ensures) ∙ c .before .before .before .before .enum-told .given .1)
+      first-next _ (lineFinding (now (a .text)) (a .n)) Clean (a .last + 1) (head .loop .line) (omega arith) (ap isClean (sym (called .line-fault .ensures) ∙ c .before .before .before .before .enum-told .given .1))
           ∙ head .loop .inv .3,
       flagged .flag-row .kept .1 .1 .0 ∙ head .loop .inv .4,
       λ v h.
@@ -110,7 +106,7 @@ returns-2 c =
     let head = c .before in
     let a = head .before .before .before .before .args in
     let e : head .loop .line - 1 - a .n ≡ a .last - a .n = omega arith in (
-      sym (first-done (lineFinding (now (a .text)) (a .n)) (a .last + 1) (head .loop .line) (omega arith)) ∙ head .loop .inv .3,
+      sym (first-done _ (lineFinding (now (a .text)) (a .n)) Clean (a .last + 1) (head .loop .line) (omega arith)) ∙ head .loop .inv .3,
       λ clean v h. subst (λ (k : ℕ). getD (head .loop .flags) v 0 ≡ cond (meantIn (now (a .text)) (a .n) k v) 1 (getD (now (a .flags)) v 0)) e (head .loop .inv .5 v h),
     )
 

@@ -8,7 +8,6 @@ use Rattle.chart.specs.Flags.{flag-set}
 use borrow.Author.Needs.{needs}
 use Rattle.chart.proofs.flag_row.Statement.{statement}
 use Rattle.chart.proofs.flag_row.Tie as tie
-use Rattle.chart.proofs.number.Reads as number-reads
 
 number-requires : tie.Need-number-requires
 number-requires c κs = search needs

@@ -1,10 +1,9 @@
 -- `chart::formed` meets its contract: the tests of the letter say which case of `formed` holds.
-use Rattle.field.proofs.Cases.{cases}
+use Rattle.search.proofs.Cases.{cases}
 use Rattle.chart.specs.Examined.{formed}
 use borrow.Author.Needs.{needs}
 use Rattle.chart.proofs.formed.Statement.{statement}
 use Rattle.chart.proofs.formed.Tie as tie
-use Rattle.chart.proofs.numbered.Reads as numbered-reads
 
 numbered-requires : tie.Need-numbered-requires
 numbered-requires c κs = search needs

@@ -5,10 +5,6 @@ use Rattle.chart.specs.Examined.{headerOf, headerFormed}
 use borrow.Author.Needs.{needs}
 use Rattle.chart.proofs.header.Statement.{statement}
 use Rattle.chart.proofs.header.Tie as tie
-use Rattle.chart.proofs.formed.Reads as formed-reads
-use Rattle.chart.proofs.limits.Reads as limits-reads
-use Rattle.chart.proofs.number.Reads as number-reads
-use Rattle.chart.proofs.row_at.Reads as row-at-reads
 
 row-at-requires : tie.Need-row-at-requires
 row-at-requires c κs = search needs

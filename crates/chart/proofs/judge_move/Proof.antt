@@ -1,11 +1,10 @@
 -- `chart::judge_move` meets its contract: the tests say which case of `judgedMove` holds.
-use Rattle.field.proofs.Cases.{cases}
+use Rattle.search.proofs.Cases.{cases}
 use Rattle.chart.specs.Examined.{judgedMove}
 use borrow.Author.Tests.{not-true, not-false}
 use borrow.Author.Needs.{needs}
 use Rattle.chart.proofs.judge_move.Statement.{statement}
 use Rattle.chart.proofs.judge_move.Tie as tie
-use Rattle.chart.proofs.judge_order.Reads as judge-order-reads
 
 returns : tie.Need-returns
 unfolding judgedMove

@@ -1,5 +1,5 @@
 -- `chart::judge_order` meets its contract: the tests say which case of `ordered` holds.
-use Rattle.field.proofs.Cases.{cases}
+use Rattle.search.proofs.Cases.{cases}
 use Rattle.chart.specs.Examined.{ordered}
 use borrow.Author.Needs.{needs}
 use Rattle.chart.proofs.judge_order.Statement.{statement}

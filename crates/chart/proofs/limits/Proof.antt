@@ -1,5 +1,5 @@
 -- `chart::limits` meets its contract: the tests say which case of `limitsOf` holds.
-use Rattle.field.proofs.Cases.{cases}
+use Rattle.search.proofs.Cases.{cases}
 use Rattle.chart.specs.Examined.{limitsOf}
 use borrow.Author.Tests.{not-true, not-false}
 use borrow.Author.Needs.{needs}

@@ -2,7 +2,7 @@
 use Prim.Native.Nat.{ℕ}
 use mathlib.Core.Path.{_≡_, ap, _∙_}
 use mathlib.Core.List.{List}
-use Rattle.field.proofs.Cases.{cases}
+use Rattle.search.proofs.Cases.{cases}
 use Rattle.chart.specs.Text.{fromAt, markAt}
 use Rattle.chart.specs.Columns.{rowAt}
 use Rattle.chart.specs.Examined.{lineFinding, positionFinding, positionFormed, positionRowFinding}
@@ -10,8 +10,6 @@ use Rattle.chart.specs.declared.Row.{Row}
 use borrow.Author.Needs.{needs}
 use Rattle.chart.proofs.line_fault.Statement.{statement}
 use Rattle.chart.proofs.line_fault.Tie as tie
-use Rattle.chart.proofs.move_fault.Reads as move-fault-reads
-use Rattle.chart.proofs.position_fault.Reads as position-fault-reads
 
 position-fault-requires : tie.Need-position-fault-requires
 position-fault-requires c κs = search needs

@@ -7,12 +7,6 @@ use Rattle.chart.specs.Columns.{rowAt, from-small}
 use borrow.Author.Needs.{needs}
 use Rattle.chart.proofs.move_fault.Statement.{statement}
 use Rattle.chart.proofs.move_fault.Tie as tie
-use Rattle.chart.proofs.cost.Reads as cost-reads
-use Rattle.chart.proofs.formed.Reads as formed-reads
-use Rattle.chart.proofs.judge_move.Reads as judge-move-reads
-use Rattle.chart.proofs.letter_at.Reads as letter-at-reads
-use Rattle.chart.proofs.number.Reads as number-reads
-use Rattle.chart.proofs.rise.Reads as rise-reads
 
 formed-requires : tie.Need-formed-requires
 formed-requires c κs = search needs

@@ -1,6 +1,6 @@
 -- `chart::number` meets its contract: by the cases of the field.
-use Rattle.field.proofs.Cases.{cases}
-use Rattle.chart.specs.Text.{numberOf}
+use Rattle.search.proofs.Cases.{cases}
+use Rattle.chart.specs.Text.{fieldNumber}
 use borrow.Author.Needs.{needs}
 use Rattle.chart.proofs.number.Statement.{statement}
 use Rattle.chart.proofs.number.Tie as tie
@@ -15,11 +15,11 @@ enum-told : tie.Need-enum-told
 enum-told c = search needs
 
 returns : tie.Need-returns
-unfolding numberOf
+unfolding fieldNumber
 returns c = search cases
 
 returns-2 : tie.Need-returns-2
-unfolding numberOf
+unfolding fieldNumber
 returns-2 c = search cases
 
 pub number-spec : {M : Type 1} → statement M

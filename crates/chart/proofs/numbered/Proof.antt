@@ -1,5 +1,5 @@
 -- `chart::numbered` meets its contract: by the cases of the two fields.
-use Rattle.field.proofs.Cases.{cases}
+use Rattle.search.proofs.Cases.{cases}
 use Rattle.chart.specs.Text.{isNumber}
 use Rattle.chart.specs.Examined.{numbered}
 use borrow.Author.Needs.{needs}

@@ -3,9 +3,6 @@ use Rattle.chart.specs.Examined.{positionRowFinding}
 use borrow.Author.Needs.{needs}
 use Rattle.chart.proofs.position_fault.Statement.{statement}
 use Rattle.chart.proofs.position_fault.Tie as tie
-use Rattle.chart.proofs.formed.Reads as formed-reads
-use Rattle.chart.proofs.judge_position.Reads as judge-position-reads
-use Rattle.chart.proofs.number.Reads as number-reads
 
 formed-requires : tie.Need-formed-requires
 formed-requires c κs = search needs

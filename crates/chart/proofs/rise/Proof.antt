@@ -2,9 +2,6 @@
 use borrow.Author.Needs.{needs}
 use Rattle.chart.proofs.rise.Statement.{statement}
 use Rattle.chart.proofs.rise.Tie as tie
-use Rattle.chart.proofs.above.Reads as above-reads
-use Rattle.chart.proofs.cost.Reads as cost-reads
-use Rattle.chart.proofs.number.Reads as number-reads
 
 number-requires : tie.Need-number-requires
 number-requires c κs = search needs

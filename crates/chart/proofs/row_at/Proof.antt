@@ -4,7 +4,6 @@ use Rattle.chart.specs.Columns.{rowAt}
 use borrow.Author.Needs.{needs}
 use Rattle.chart.proofs.row_at.Statement.{statement}
 use Rattle.chart.proofs.row_at.Tie as tie
-use Rattle.field.proofs.read.Reads as read-reads
 
 mul-at : tie.Need-mul-at
 mul-at c = search needs

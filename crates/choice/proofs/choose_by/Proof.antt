@@ -1,16 +1,10 @@
 -- `choose_by` meets its contract: each way out by the tests that led to it.
-use Prim.Native.Nat.{ℕ, _+_, _-_, _≤_, _<_}
-use native.Mathlib.Omega.{arith}
 use borrow.Author.Needs.{needs}
-use lib.ListN.{length, getD, set, length-set}
 use borrow.Author.Needs.{needs}
 use Rattle.choice.specs.Choose.{ownMove}
-use Rattle.field.proofs.Cases.{cases}
+use Rattle.search.proofs.Cases.{cases}
 use Rattle.choice.proofs.choose_by.Statement.{statement}
 use Rattle.choice.proofs.choose_by.Tie as tie
-use Rattle.choice.proofs.choose_by.Reads as reads
-use Rattle.choice.proofs.choose_by.Lts as lts
-use Rattle.choice.proofs.is_better.Reads as is-better-reads
 
 shared-slice-read-if1 : tie.Need-shared-slice-read-if1
 shared-slice-read-if1 c = search needs

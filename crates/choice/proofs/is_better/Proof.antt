@@ -1,15 +1,10 @@
 -- `is_better` meets its contract: each answer by the tests that led to it.
-use Prim.Native.Nat.{ℕ, _+_, _-_, _≤_, _<_}
-use native.Mathlib.Omega.{arith}
 use borrow.Author.Needs.{needs}
-use lib.ListN.{length, getD, set, length-set}
 use borrow.Author.Needs.{needs}
 use Rattle.choice.specs.Choose.{isBetter}
-use Rattle.field.proofs.Cases.{cases}
+use Rattle.search.proofs.Cases.{cases}
 use Rattle.choice.proofs.is_better.Statement.{statement}
 use Rattle.choice.proofs.is_better.Tie as tie
-use Rattle.choice.proofs.is_better.Reads as reads
-use Rattle.choice.proofs.is_better.Lts as lts
 
 returns : tie.Need-returns
 unfolding isBetter

@@ -2,8 +2,6 @@
 use Rattle.conditions.specs.Position.{afterMoves}
 use Rattle.conditions.proofs.after_moves.Statement.{statement}
 use Rattle.conditions.proofs.after_moves.Tie as tie
-use Rattle.conditions.proofs.after_moves.Reads as reads
-use Rattle.conditions.proofs.after_moves.Lts as lts
 
 returns : tie.Need-returns
 unfolding afterMoves

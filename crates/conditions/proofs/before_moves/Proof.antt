@@ -2,8 +2,6 @@
 use Rattle.conditions.specs.Position.{beforeMoves}
 use Rattle.conditions.proofs.before_moves.Statement.{statement}
 use Rattle.conditions.proofs.before_moves.Tie as tie
-use Rattle.conditions.proofs.before_moves.Reads as reads
-use Rattle.conditions.proofs.before_moves.Lts as lts
 
 returns : tie.Need-returns
 unfolding beforeMoves

@@ -1,10 +1,8 @@
 -- `earlier` meets its contract: each answer by the tests that led to it.
-use Rattle.field.proofs.Cases.{cases}
+use Rattle.search.proofs.Cases.{cases}
 use Rattle.conditions.specs.Position.{earlierTarget}
 use Rattle.conditions.proofs.earlier.Statement.{statement}
 use Rattle.conditions.proofs.earlier.Tie as tie
-use Rattle.conditions.proofs.earlier.Reads as reads
-use Rattle.conditions.proofs.earlier.Lts as lts
 
 returns : tie.Need-returns
 unfolding earlierTarget

@@ -3,9 +3,6 @@ use borrow.Author.Needs.{needs}
 use Rattle.conditions.specs.Position.{joined}
 use Rattle.conditions.proofs.see.Statement.{statement}
 use Rattle.conditions.proofs.see.Tie as tie
-use Rattle.conditions.proofs.see.Reads as reads
-use Rattle.conditions.proofs.see.Lts as lts
-use Rattle.conditions.proofs.show.Reads as show-reads
 
 show-requires : tie.Need-show-requires
 show-requires c κs = search needs

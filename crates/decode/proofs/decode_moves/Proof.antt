@@ -1,18 +1,16 @@
 -- `decode::decode_moves` meets its contract. The invariant: the rows so far are those of the first i moves. That the text has the
 -- lines, that their bytes spell their numbers and that these fit 16 bits is what accepting it says.
-use Prim.Native.Nat.{ℕ, _+_, _-_, _≤_}
+use Prim.Native.Nat.{ℕ, _+_, _≤_, _-_}
 use native.Mathlib.Omega.{arith}
 use mathlib.Core.Path.{_≡_, _∙_, subst}
 use lib.ListN.{length}
 use denote.Ref.{now}
+use Rattle.rows.specs.Filling.{filled-none, filled-more}
 use Rattle.chart.specs.Text.{letterAt}
 use Rattle.decode.specs.Loaded.{MoveRows}
-use Rattle.game.specs.Filling.{filled-none, filled-more}
 use Rattle.decode.specs.LoadedLaws.{MovesFit, moves-fit}
 use Rattle.decode.proofs.decode_moves.Statement.{statement}
 use Rattle.decode.proofs.decode_moves.Tie as tie
-use Rattle.chart.proofs.cost.Reads as cost-reads
-use Rattle.field.proofs.decimal.Reads as decimal-reads
 
 abbrev Inv-loop : tie.InvT-loop
 Inv-loop text costs₀ froms₀ tos₀ first m i₀ costs froms tos i = (i ≤ m) × (m ≤ length costs₀) × (m ≤ length froms₀) × (m ≤ length tos₀) × MovesFit text first m × MoveRows text first i costs₀ costs froms₀ froms tos₀ tos

@@ -1,18 +1,16 @@
 -- `decode::decode_positions` meets its contract. The invariant: the rows so far are those of the first v positions. That the text
 -- has the lines, that its bytes spell its marks and that these fit a byte is what accepting it says.
-use Prim.Native.Nat.{ℕ, _-_, _≤_}
+use Prim.Native.Nat.{ℕ, _≤_, _-_}
 use native.Mathlib.Omega.{arith}
 use mathlib.Core.Path.{_≡_, _∙_, subst}
 use lib.ListN.{length}
 use denote.Ref.{now}
+use Rattle.rows.specs.Filling.{filled-none, filled-more}
 use Rattle.chart.specs.Text.{letterAt}
 use Rattle.decode.specs.Loaded.{PositionRows}
-use Rattle.game.specs.Filling.{filled-none, filled-more}
 use Rattle.decode.specs.LoadedLaws.{PositionsFit, positions-fit}
 use Rattle.decode.proofs.decode_positions.Statement.{statement}
 use Rattle.decode.proofs.decode_positions.Tie as tie
-use Rattle.field.proofs.decimal.Reads as decimal-reads
-use Rattle.decode.proofs.owner.Reads as owner-reads
 
 abbrev Inv-loop : tie.InvT-loop
 Inv-loop text owners₀ marks₀ n v₀ owners marks v = (v ≤ n) × (n ≤ length owners₀) × (n ≤ length marks₀) × PositionsFit text n × PositionRows text v owners₀ owners marks₀ marks

@@ -4,13 +4,10 @@ use native.Mathlib.Omega.{arith}
 use Prim.Native.Nat.{ℕ}
 use mathlib.Core.Path.{_≡_, refl, sym, _∙_}
 use denote.Ref.{now}
-use Rattle.decode.specs.LoadedLaws.{positions-fit, moves-fit, accepted-rows-load}
+use Rattle.decode.specs.LoadedLaws.{positions-fit, moves-fit, accepted-rows-load, answered-rows-load}
 use borrow.Author.Needs.{needs}
 use Rattle.decode.proofs.load.Statement.{statement}
 use Rattle.decode.proofs.load.Tie as tie
-use Rattle.decode.proofs.decode_moves.Reads as decode-moves-reads
-use Rattle.decode.proofs.decode_positions.Reads as decode-positions-reads
-use Rattle.chart.proofs.examine.Reads as examine-reads
 
 examine-requires : tie.Need-examine-requires
 examine-requires c κs = search needs
@@ -66,7 +63,7 @@ returns-2 c =
     let e = sym (chosen .before .before .examine .ensures) ∙ chosen .chart .given .1 in
     record {
       answer = sym e;
-      taken = λ chart _. accepted-rows-load _ _ _ _ _ _ _ _ _ _ _ _ e (c .before .before .before .before .before .before .before .before .before .before .before .before .before .before .decode-positions .ensures) (c .before .before .before .before .before .before .decode-moves .ensures);
+      taken = λ chart q. answered-rows-load _ _ _ _ _ _ _ _ _ _ _ _ _ q (accepted-rows-load _ _ _ _ _ _ _ _ _ _ _ _ e (search needs, search needs) (search needs, search needs, search needs) (c .before .before .before .before .before .before .before .before .before .before .before .before .before .before .decode-positions .ensures) (c .before .before .before .before .before .before .decode-moves .ensures));
       refused = λ s q. let z : _≡_ {A = ℕ} 0 1 = cc in absurd (omega arith);
     }
 

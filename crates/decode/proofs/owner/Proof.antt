@@ -1,5 +1,5 @@
 -- `decode::owner` meets its contract: the test says which case of `ownerOf` holds.
-use Rattle.field.proofs.Cases.{cases}
+use Rattle.search.proofs.Cases.{cases}
 use Rattle.chart.specs.Meaning.{ownerOf}
 use Rattle.decode.proofs.owner.Statement.{statement}
 use Rattle.decode.proofs.owner.Tie as tie

@@ -3,8 +3,6 @@ use Rattle.field.specs.Text.{five, decimal, decimalAt}
 use borrow.Author.Needs.{needs}
 use Rattle.field.proofs.decimal.Statement.{statement}
 use Rattle.field.proofs.decimal.Tie as tie
-use Rattle.field.proofs.decimal.Reads as reads
-use Rattle.field.proofs.decimal.Lts as lts
 
 shared-slice-read-a : tie.Need-shared-slice-read-a
 shared-slice-read-a c = search needs

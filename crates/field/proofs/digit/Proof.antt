@@ -1,5 +1,5 @@
 -- `field::digit` meets its contract: the tests are those of `isDigit`.
-use Rattle.field.proofs.Cases.{cases}
+use Rattle.search.proofs.Cases.{cases}
 use Rattle.field.specs.Reader.{isDigit}
 use Rattle.field.proofs.digit.Statement.{statement}
 use Rattle.field.proofs.digit.Tie as tie

@@ -6,8 +6,6 @@ use Rattle.field.specs.Reader.{digit-range, stops, starts, goes, spells}
 use borrow.Author.Needs.{needs}
 use Rattle.field.proofs.digits.Statement.{statement}
 use Rattle.field.proofs.digits.Tie as tie
-use Rattle.field.proofs.digit.Reads as digit-reads
-use Rattle.field.proofs.value.Reads as value-reads
 
 digit-requires : tie.Need-digit-requires
 digit-requires c κs = search needs

@@ -1,5 +1,5 @@
 -- `field::leading` meets its contract: the test says which case holds.
-use Rattle.field.proofs.Cases.{cases}
+use Rattle.search.proofs.Cases.{cases}
 use Rattle.field.proofs.leading.Statement.{statement}
 use Rattle.field.proofs.leading.Tie as tie
 

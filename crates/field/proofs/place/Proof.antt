@@ -1,5 +1,5 @@
 -- `field::place` meets its contract: the test says which case of `placeByte` holds.
-use Rattle.field.proofs.Cases.{cases}
+use Rattle.search.proofs.Cases.{cases}
 use Rattle.field.specs.Text.{placeByte}
 use borrow.Author.Needs.{needs}
 use Rattle.field.proofs.place.Statement.{statement}

@@ -7,8 +7,6 @@ use Rattle.field.specs.Reader.{zero-adds, space, blank, lead, last}
 use borrow.Author.Needs.{needs}
 use Rattle.field.proofs.read.Statement.{statement}
 use Rattle.field.proofs.read.Tie as tie
-use Rattle.field.proofs.digits.Reads as digits-reads
-use Rattle.field.proofs.leading.Reads as leading-reads
 
 shared-slice-read-a : tie.Need-shared-slice-read-a
 shared-slice-read-a c = search needs

@@ -6,7 +6,6 @@ use Rattle.field.specs.Text.{withNumber, numberText}
 use borrow.Author.Needs.{needs}
 use Rattle.field.proofs.write.Statement.{statement}
 use Rattle.field.proofs.write.Tie as tie
-use Rattle.field.proofs.place.Reads as place-reads
 
 place-requires : tie.Need-place-requires
 place-requires c κs = search needs

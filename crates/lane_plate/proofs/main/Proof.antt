@@ -1,19 +1,12 @@
 -- `main` meets its contract: what was read and what was answered are within their buffers.
-use Prim.Native.Nat.{ℕ, _+_, _-_, _≤_, _<_}
-use native.Mathlib.Omega.{arith}
+use Prim.Native.Nat.{_-_}
 use borrow.Author.Needs.{needs}
-use lib.ListN.{length, getD, set, length-set}
 use borrow.Author.Needs.{needs}
 use mathlib.Core.Path.{sym}
 use lib.Seq.{length-take-le}
 use Rattle.response.specs.Response.{responded-fits}
 use Rattle.lane_plate.proofs.main.Statement.{statement}
 use Rattle.lane_plate.proofs.main.Tie as tie
-use Rattle.lane_plate.proofs.main.Reads as reads
-use Rattle.lane_plate.proofs.main.Lts as lts
-use Rattle.io.proofs.read_full.Reads as read-full-reads
-use Rattle.io.proofs.write_all.Reads as write-all-reads
-use Rattle.response.proofs.respond.Reads as respond-reads
 
 slice-aggregate-read-full : tie.Need-slice-aggregate-read-full
 slice-aggregate-read-full c = search needs

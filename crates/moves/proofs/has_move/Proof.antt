@@ -1,23 +1,21 @@
--- `has_move` meets its contract: the invariant says that none of the first i moves leads from v to w at this cost.
+-- `has_move` meets its contract: the invariant says that none of the first i moves of the kind sought leads from v to w.
 use Prim.Native.Nat.{_-_, _≤_}
 use native.Mathlib.Omega.{arith}
 use native.Mathlib.Nat.{le-antisymm}
 use mathlib.Core.Path.{_≡_, refl, sym, _∙_}
 use mathlib.Core.Bool.{false}
-use Rattle.game.specs.Summary.{someBelow}
-use Rattle.round.specs.RowLaws.{found, numberAt, some-next, some-hit}
+use Rattle.rows.specs.Numbers.{numberAt}
+use Rattle.rows.specs.Notes.{found}
+use Rattle.search.specs.Below.{someBelow, some-next, some-hit}
 use Rattle.moves.specs.Moves.{leadsTo, leadsFrom}
 use Rattle.moves.proofs.has_move.Statement.{statement}
 use Rattle.moves.proofs.has_move.Tie as tie
-use Rattle.moves.proofs.has_move.Reads as reads
-use Rattle.moves.proofs.has_move.Lts as lts
-use Rattle.moves.proofs.leads.Reads as leads-reads
 
 abbrev Inv-loop : tie.InvT-loop
-Inv-loop cost v w n m costs froms tos i₀ i = (i ≤ m) × (found (numberAt froms) (leadsTo cost w costs tos) i v ≡ false)
+Inv-loop meant v w n m costs froms tos i₀ i = (i ≤ m) × (found (numberAt froms) (leadsTo meant w costs tos) i v ≡ false)
 
 abbrev μ-loop : tie.MeasureT-loop
-μ-loop cost v w n m costs froms tos i₀ i = m - i
+μ-loop meant v w n m costs froms tos i₀ i = m - i
 
 loop-holds : tie.Need-loop-holds Inv-loop μ-loop
 unfolding found someBelow

@@ -1,13 +1,10 @@
 -- `leads` meets its contract: each answer by the tests that led to it.
-use Prim.Native.Nat.{_-_}
 use native.Mathlib.Omega.{arith}
 use borrow.Author.Needs.{needs}
-use Rattle.field.proofs.Cases.{cases}
+use Rattle.search.proofs.Cases.{cases}
 use Rattle.moves.specs.Moves.{leadsFrom, leadsTo}
 use Rattle.moves.proofs.leads.Statement.{statement}
 use Rattle.moves.proofs.leads.Tie as tie
-use Rattle.moves.proofs.leads.Reads as reads
-use Rattle.moves.proofs.leads.Lts as lts
 
 mul-if1 : tie.Need-mul-if1
 mul-if1 c = search needs
@@ -22,25 +19,21 @@ returns : tie.Need-returns
 unfolding leadsFrom leadsTo
 returns c = search cases
 
-shared-slice-read-if2 : tie.Need-shared-slice-read-if2
-shared-slice-read-if2 c = search needs
-
-returns-2 : tie.Need-returns-2
-unfolding leadsFrom leadsTo
-returns-2 c = search cases
+shared-slice-read-result : tie.Need-shared-slice-read-result
+shared-slice-read-result c = search needs
 
 mul-result : tie.Need-mul-result
 mul-result c = search needs
 
-shared-slice-read-result : tie.Need-shared-slice-read-result
-shared-slice-read-result c = search needs
+shared-slice-read-result-2 : tie.Need-shared-slice-read-result-2
+shared-slice-read-result-2 c = search needs
 
 cast-result : tie.Need-cast-result
-cast-result c = omega (arith, c .shared-slice-known3 .given (c .before .before .before .before .before .args .i))
+cast-result c = omega (arith, c .shared-slice-known3 .given (c .before .before .before .before .args .i))
 
-returns-3 : tie.Need-returns-3
+returns-2 : tie.Need-returns-2
 unfolding leadsFrom leadsTo
-returns-3 c = search cases
+returns-2 c = search cases
 
 pub leads-spec : {M : Type 1} → statement M
 leads-spec =
@@ -50,9 +43,8 @@ leads-spec =
     shared-slice-read-if1
     cast-if1
     returns
-    shared-slice-read-if2
-    returns-2
-    mul-result
     shared-slice-read-result
+    mul-result
+    shared-slice-read-result-2
     cast-result
-    returns-3)
+    returns-2)

@@ -22,6 +22,9 @@ returns-2 c =
     passes _ _ _ _ (one .before .framed .ensures) (one .if1 .left)
     (fails _ _ _ (c .before .number-is .ensures) (c .if2 .taken))
 
+add-number-below : tie.Need-add-number-below
+add-number-below c = search needs
+
 number-below-requires : tie.Need-number-below-requires
 number-below-requires c κs = search needs
 
@@ -48,6 +51,9 @@ returns-4 c =
     (passes _ _ _ _ (three .before .number-below .ensures) (three .if3 .left)
     (fails _ _ _ (c .before .dash-or-below .ensures) (c .if4 .taken))))
 
+add-number-below-2 : tie.Need-add-number-below-2
+add-number-below-2 c = search needs
+
 number-below-requires-2 : tie.Need-number-below-requires-2
 number-below-requires-2 c κs = search needs
 
@@ -72,9 +78,11 @@ header-good-spec =
     returns
     number-is-requires
     returns-2
+    add-number-below
     number-below-requires
     returns-3
     dash-or-below-requires
     returns-4
+    add-number-below-2
     number-below-requires-2
     returns-5)

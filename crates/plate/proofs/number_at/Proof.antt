@@ -1,8 +1,8 @@
 -- `plate::number_at` meets its contract, by the cases of the entry.
+use Rattle.rows.specs.Numbers.{numberOf}
 use Rattle.plate.specs.Read.{entryNumber}
 use mathlib.Core.Path.{sym, ap, _∙_}
 use Rattle.plate.specs.Read.{entryValue}
-use Rattle.game.specs.Value.{numberOf}
 use native.Mathlib.Omega.{arith}
 use borrow.Author.Needs.{needs}
 use Rattle.plate.proofs.number_at.Statement.{statement}

@@ -1,6 +1,6 @@
 -- `plate::number_below` meets its contract, by the cases of the entry.
 use Rattle.plate.specs.Formed.{numberBelow}
-use Rattle.field.proofs.Cases.{cases}
+use Rattle.search.proofs.Cases.{cases}
 use borrow.Author.Needs.{needs}
 use Rattle.plate.proofs.number_below.Statement.{statement}
 use Rattle.plate.proofs.number_below.Tie as tie

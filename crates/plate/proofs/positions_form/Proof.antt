@@ -1,7 +1,8 @@
 -- `plate::positions_form` meets its contract. The invariant: the lowest bad line of what is left is that of all. A good line leaves
--- that as it is, a bad one ends it, and with nothing left there is none: the three laws of `firstBad`.
-use Rattle.plate.specs.FirstBad.{bad-next, bad-stop, bad-done}
-use Rattle.plate.specs.Formed.{firstBad, positionGood}
+-- that as it is, a bad one ends it, and with nothing left there is none: the three laws of `firstFrom`.
+use Rattle.search.specs.First.{firstFrom, first-next, first-stop, first-done}
+use Rattle.plate.specs.Formed.{positionGood, badPosition}
+use Rattle.plate.specs.declared.Form.the-variants.{Good}
 use borrow.Author.Tests.{not-true, not-false}
 use denote.Ref.{now}
 use mathlib.Core.Path.{_≡_, sym, ap, _∙_}
@@ -11,13 +12,13 @@ use Rattle.plate.proofs.positions_form.Statement.{statement}
 use Rattle.plate.proofs.positions_form.Tie as tie
 
 abbrev Inv-loop : tie.InvT-loop
-Inv-loop n plate v₀ v = (v ≤ n) × (firstBad (positionGood n plate) (n - v) v ≡ firstBad (positionGood n plate) n 0)
+Inv-loop n plate v₀ v = (v ≤ n) × (firstFrom (positionGood n plate) badPosition Good (n - v) v ≡ firstFrom (positionGood n plate) badPosition Good n 0)
 
 abbrev μ-loop : tie.MeasureT-loop
 μ-loop n plate v₀ v = n - v
 
 loop-holds : tie.Need-loop-holds Inv-loop μ-loop
-loop-holds c = let a = c .before .args in let e : a .n - 0 ≡ a .n = omega arith in (omega arith, ap (λ (k : ℕ). firstBad (positionGood (a .n) (now (a .plate))) k 0) e)
+loop-holds c = let a = c .before .args in let e : a .n - 0 ≡ a .n = omega arith in (omega arith, ap (λ (k : ℕ). firstFrom (positionGood (a .n) (now (a .plate))) badPosition Good k 0) e)
 
 position-good-requires : tie.Need-position-good-requires Inv-loop μ-loop
 position-good-requires c κs = omega arith
@@ -30,7 +31,7 @@ returns c =
     let head = c .before .before .before in
     let a = head .before .before .args in
     let bad = sym (c .before .position-good .ensures) ∙ not-true (c .before .position-good .result) (c .if1 .taken) in
-    sym (bad-stop (positionGood (a .n) (now (a .plate))) (a .n) (head .loop .v) (omega arith) bad) ∙ head .loop .inv .1
+    sym (first-stop (positionGood (a .n) (now (a .plate))) badPosition Good (a .n) (head .loop .v) (omega arith) bad) ∙ head .loop .inv .1
 
 add-v : tie.Need-add-v Inv-loop μ-loop
 add-v c = omega arith
@@ -43,12 +44,12 @@ loop-again c =
     let head = c .before .before .before in
     let a = head .before .before .args in
     let good = sym (c .before .position-good .ensures) ∙ not-false (c .before .position-good .result) (c .if1 .left) in
-    (omega arith, bad-next (positionGood (a .n) (now (a .plate))) (a .n) (head .loop .v) (omega arith) good ∙ head .loop .inv .1)
+    (omega arith, first-next (positionGood (a .n) (now (a .plate))) badPosition Good (a .n) (head .loop .v) (omega arith) good ∙ head .loop .inv .1)
 
 returns-2 : tie.Need-returns-2 Inv-loop μ-loop
 returns-2 c =
     let a = c .before .before .before .args in
-    sym (bad-done (positionGood (a .n) (now (a .plate))) (a .n) (c .before .loop .v) (omega arith)) ∙ c .before .loop .inv .1
+    sym (first-done (positionGood (a .n) (now (a .plate))) badPosition Good (a .n) (c .before .loop .v) (omega arith)) ∙ c .before .loop .inv .1
 
 pub positions-form-spec : {M : Type 1} → statement M
 positions-form-spec =

@@ -1,10 +1,10 @@
 -- `plate::read_rows` meets its contract. The invariant: the rows hold the columns of the positions so far. A turn reads one line of
 -- three entries, each of which fits 16 bits by the form.
 use mathlib.Core.Path.{_≡_, subst}
+use Rattle.rows.specs.Filling.{filled-none, filled-more}
 use Rattle.plate.specs.ReadLaws.{LineFits, header-fits, position-fits}
 use Rattle.plate.specs.Read.{valueIn, choiceIn, stepIn, headerIn, ColumnsRead}
-use Rattle.plate.specs.Form.{secondAt, thirdAt, fourthAt}
-use Rattle.game.specs.Filling.{filled-none, filled-more}
+use Rattle.plate.specs.Form.{columnAt}
 use denote.Ref.{now}
 use Prim.Native.Nat.{ℕ, _+_, _-_, _≤_}
 use native.Mathlib.Omega.{arith}
@@ -41,7 +41,7 @@ add-number-at : tie.Need-add-number-at Inv-loop μ-loop
 add-number-at c = omega arith
 
 number-at-requires : tie.Need-number-at-requires Inv-loop μ-loop
-unfolding secondAt
+unfolding columnAt
 number-at-requires c κs = (omega (arith, turn c .inside), turn c .second)
 
 mul-values : tie.Need-mul-values Inv-loop μ-loop
@@ -54,7 +54,7 @@ add-number-at-2 : tie.Need-add-number-at-2 Inv-loop μ-loop
 add-number-at-2 c = omega arith
 
 number-at-requires-2 : tie.Need-number-at-requires-2 Inv-loop μ-loop
-unfolding thirdAt
+unfolding columnAt
 number-at-requires-2 c κs = (omega (arith, turn (c .before) .inside), turn (c .before) .third)
 
 mul-choices : tie.Need-mul-choices Inv-loop μ-loop
@@ -67,7 +67,7 @@ add-number-at-3 : tie.Need-add-number-at-3 Inv-loop μ-loop
 add-number-at-3 c = omega arith
 
 number-at-requires-3 : tie.Need-number-at-requires-3 Inv-loop μ-loop
-unfolding fourthAt
+unfolding columnAt
 number-at-requires-3 c κs = (omega (arith, turn (c .before .before) .inside), turn (c .before .before) .fourth)
 
 mul-steps : tie.Need-mul-steps Inv-loop μ-loop
@@ -83,7 +83,7 @@ loop-less : tie.Need-loop-less Inv-loop μ-loop
 loop-less c = omega arith
 
 loop-again : tie.Need-loop-again Inv-loop μ-loop
-unfolding valueIn choiceIn stepIn secondAt thirdAt fourthAt
+unfolding valueIn choiceIn stepIn columnAt
 loop-again c =
     let head = c .before .before .before .before in
     let rows = head .loop .inv .1 in (
@@ -96,15 +96,15 @@ loop-again c =
     )
 
 number-at-requires-4 : tie.Need-number-at-requires-4 Inv-loop μ-loop
-unfolding secondAt
+unfolding columnAt
 number-at-requires-4 c κs = (omega (arith, first (c .before) .inside), first (c .before) .second)
 
 number-at-requires-5 : tie.Need-number-at-requires-5 Inv-loop μ-loop
-unfolding thirdAt
+unfolding columnAt
 number-at-requires-5 c κs = (omega (arith, first (c .before .before) .inside), first (c .before .before) .third)
 
 number-at-requires-6 : tie.Need-number-at-requires-6 Inv-loop μ-loop
-unfolding fourthAt
+unfolding columnAt
 number-at-requires-6 c κs = (omega (arith, first (c .before .before .before) .inside), first (c .before .before .before) .fourth)
 
 same-length : tie.Need-same-length Inv-loop μ-loop
@@ -117,7 +117,7 @@ same-length-3 : tie.Need-same-length-3 Inv-loop μ-loop
 same-length-3 c = omega arith
 
 returns : tie.Need-returns Inv-loop μ-loop
-unfolding headerIn secondAt thirdAt fourthAt
+unfolding headerIn columnAt
 returns c =
     let head = c .before .before .before .before in
     let a = head .before .before .before .before .before .args in

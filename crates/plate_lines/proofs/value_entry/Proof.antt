@@ -1,7 +1,7 @@
--- `plate::value_entry` meets its contract: the test says which case of `valueOf` holds.
+-- `plate_lines::value_entry` meets its contract: the test says which case of `valueOf` holds.
+use Rattle.rows.specs.Numbers.{valueOf}
 use Rattle.plate.specs.Text.{valueEntry}
-use Rattle.game.specs.Value.{valueOf}
-use Rattle.field.proofs.Cases.{cases}
+use Rattle.search.proofs.Cases.{cases}
 use Rattle.plate_lines.proofs.value_entry.Statement.{statement}
 use Rattle.plate_lines.proofs.value_entry.Tie as tie
 

@@ -1,6 +1,7 @@
--- `plate::write_line` meets its contract: its stores are those of the line, each behind the last (`line-stores`). A call keeps the
+-- `plate_lines::write_line` meets its contract: its stores are those of the line, each behind the last (`line-stores`). A call keeps the
 -- length.
-use Rattle.plate.specs.Line.{line-stores}
+use mathlib.Core.List.{[], _∷_}
+use Rattle.line.specs.LineLaws.{withFields, line-stores}
 use native.Mathlib.Omega.{arith}
 use borrow.Author.Needs.{needs}
 use lib.ListN.{length-set}
@@ -53,13 +54,15 @@ same-length c =
     simp length-set (omega (arith, length-set (a .part .now) 0 (a .letter), one .write-entry .kept .1 .0, two .write-entry2 .kept .1 .0, three .write-entry3 .kept .1 .0, four .write-entry4 .kept .1 .0))
 
 returns : tie.Need-returns
+unfolding withFields
 returns c =
     let four = c .before .before in
     let three = four .before .before .before .before in
     let two = three .before .before .before .before in
     let one = two .before .before .before .before in
     let a = one .before .before .before .args in
-    line-stores (a .letter) (a .a) (a .b) (a .c) (a .d) (a .part .now) (omega (arith, one)) (one .write-entry .ensures) (two .write-entry2 .ensures) (three .write-entry3 .ensures) (four .write-entry4 .ensures)
+    rw (four .write-entry4 .ensures, three .write-entry3 .ensures, two .write-entry2 .ensures, one .write-entry .ensures)
+    (line-stores (a .letter) (a .a ∷ a .b ∷ a .c ∷ a .d ∷ []) (a .part .now) (omega (arith, one)))
 
 pub write-line-spec : {M : Type 1} → statement M
 write-line-spec =

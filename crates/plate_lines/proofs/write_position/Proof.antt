@@ -1,4 +1,4 @@
--- `plate::write_position` meets its contract: its line is that of the position.
+-- `plate_lines::write_position` meets its contract: its line is that of the position.
 use Rattle.plate.specs.Text.{positionLine}
 use borrow.Author.Needs.{needs}
 use Rattle.plate_lines.proofs.write_position.Statement.{statement}

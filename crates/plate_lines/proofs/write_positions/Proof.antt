@@ -1,11 +1,12 @@
--- `plate::write_positions` meets its contract. The invariant: the lines of the positions so far are written, and behind them the
+-- `plate_lines::write_positions` meets its contract. The invariant: the lines of the positions so far are written, and behind them the
 -- buffer is as it was. A turn writes the part behind them.
 use mathlib.Core.List.{_++_}
+use Rattle.rows.specs.Numbers.{rowValue}
 use Rattle.plate.specs.Line.{lines-more}
 use lib.ListN.{length, drop, length-take, length-drop}
 use mathlib.Core.Path.{_≡_, subst}
-use Rattle.plate.specs.Written.{Written, written-none, written-length}
-use Rattle.summary.specs.Summarize.{rowValue}
+use Rattle.line.specs.Joined.{joined}
+use Rattle.line.specs.Written.{Written, written-none, written-length}
 use Rattle.plate.specs.Text.{positionLines}
 use Prim.Native.Nat.{_*_}
 use Prim.Native.Nat.{ℕ, _-_, _≤_}
@@ -20,7 +21,7 @@ abbrev μ-loop : tie.MeasureT-loop
 μ-loop n values choices steps lines₀ v₀ lines v = n - v
 
 loop-holds : tie.Need-loop-holds Inv-loop μ-loop
-unfolding positionLines
+unfolding positionLines joined
 loop-holds c = (omega arith, omega arith, written-none _)
 
 mul-at : tie.Need-mul-at Inv-loop μ-loop

@@ -1,6 +1,6 @@
--- `plate::write_rows` meets its contract: the first line is written, and then the part behind it (`plate-written`).
+-- `plate_lines::write_rows` meets its contract: the first line is written, and then the part behind it (`plate-written`).
+use Rattle.rows.specs.Numbers.{rowValue}
 use Rattle.plate.specs.Line.{plate-written}
-use Rattle.summary.specs.Summarize.{rowValue}
 use native.Mathlib.Omega.{arith}
 use borrow.Author.Needs.{needs}
 use Rattle.plate_lines.proofs.write_rows.Statement.{statement}

@@ -4,7 +4,7 @@ use Rattle.reading.specs.ReadingLaws.{reading-refused, reading-short, re
 use Rattle.chart.specs.declared.Examination.the-variants.{Accepted}
 use Rattle.chart.specs.Examined.{examined}
 use Rattle.chart.specs.Accepted.{accepted-few}
-use Rattle.field.proofs.Cases.{cases}
+use Rattle.search.proofs.Cases.{cases}
 use borrow.Author.Tests.{le-leb}
 use mathlib.Core.Path.{_≡_, sym, _∙_}
 use denote.Ref.{now}

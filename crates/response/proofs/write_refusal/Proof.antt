@@ -1,41 +1,51 @@
--- `write_refusal` meets its contract: each store of the line in its place.
-use Prim.Native.Nat.{ℕ, _+_, _-_, _≤_, _<_}
+-- `write_refusal` meets its contract: its stores are those of the line, each behind the last (`line-stores`). A call keeps the length.
+use mathlib.Core.List.{[], _∷_}
 use native.Mathlib.Omega.{arith}
 use borrow.Author.Needs.{needs}
-use lib.ListN.{length, getD, set, length-set}
-use borrow.Author.Needs.{needs}
-use Rattle.response.specs.Response.{line-stores}
+use lib.ListN.{length-set}
+use Rattle.line.specs.LineLaws.{withFields, line-stores}
+use Rattle.line.specs.declared.Entry.the-variants.{Number}
 use Rattle.response.proofs.write_refusal.Statement.{statement}
 use Rattle.response.proofs.write_refusal.Tie as tie
-use Rattle.response.proofs.write_refusal.Reads as reads
-use Rattle.response.proofs.write_refusal.Lts as lts
-use Rattle.field.proofs.write.Reads as write-reads
 
 slice-write-out : tie.Need-slice-write-out
 slice-write-out c = search needs
 
-write-requires : tie.Need-write-requires
-write-requires c κs = omega (arith, length-set (c .before .before .args .out .now) 0 82)
+write-entry-requires : tie.Need-write-entry-requires
+write-entry-requires c κs = simp length-set (omega arith)
 
-write-requires-2 : tie.Need-write-requires-2
-write-requires-2 c κs = omega (arith, length-set (c .before .before .before .before .before .before .args .out .now) 0 82, c .before .before .before .write .kept)
+write-entry-requires-2 : tie.Need-write-entry-requires-2
+write-entry-requires-2 c κs =
+    let one = c .before .before .before in
+    omega (arith, length-set (one .before .before .before .args .out .now) 0 82, one .write-entry .kept .1 .0)
 
 slice-write-out-2 : tie.Need-slice-write-out-2
-slice-write-out-2 c = omega (arith, length-set (c .before .before .before .before .before .before .before .before .before .args .out .now) 0 82, c .before .before .before .before .before .before .write .kept, c .before .before .write2 .kept)
+slice-write-out-2 c =
+    let two = c .before .before in
+    let one = two .before .before .before .before in
+    omega (arith, length-set (one .before .before .before .args .out .now) 0 82, one .write-entry .kept .1 .0, two .write-entry2 .kept .1 .0)
 
 same-length : tie.Need-same-length
-same-length c = simp length-set (omega (arith, length-set (c .before .before .before .before .before .before .before .before .before .args .out .now) 0 82, c .before .before .before .before .before .before .write .kept, c .before .before .write2 .kept))
+same-length c =
+    let two = c .before .before in
+    let one = two .before .before .before .before in
+    simp length-set (omega (arith, length-set (one .before .before .before .args .out .now) 0 82, one .write-entry .kept .1 .0, two .write-entry2 .kept .1 .0))
 
 returns : tie.Need-returns
-returns c = line-stores 82 (c .before .before .before .before .before .before .before .before .before .args .number) (c .before .before .before .before .before .before .before .before .before .args .line) (c .before .before .before .before .before .before .before .before .before .args .out .now) (c .before .before .before .before .before .before .before .before .before .pre) (c .before .before .before .before .before .before .write .ensures) (c .before .before .write2 .ensures)
+unfolding withFields
+returns c =
+    let two = c .before .before in
+    let one = two .before .before .before .before in
+    let a = one .before .before .before .args in
+    rw (two .write-entry2 .ensures, one .write-entry .ensures) (line-stores 82 (Number (a .number) ∷ Number (a .line) ∷ []) (a .out .now) (omega (arith, one)))
 
 pub write-refusal-spec : {M : Type 1} → statement M
 write-refusal-spec =
     tie.close
     (tie.spec
     slice-write-out
-    write-requires
-    write-requires-2
+    write-entry-requires
+    write-entry-requires-2
     slice-write-out-2
     same-length
     returns)

@@ -1,19 +1,13 @@
 -- `all_legal` meets its contract: the invariant says that the choices below v are legal.
-use Prim.Native.Nat.{ℕ, _+_, _-_, _≤_, _<_}
+use Prim.Native.Nat.{_≤_, _-_}
 use native.Mathlib.Nat.{le-antisymm}
 use native.Mathlib.Omega.{arith}
-use borrow.Author.Needs.{needs}
 use mathlib.Core.Path.{_≡_, refl, sym, ap, _∙_}
-use lib.ListN.{length, getD, set, length-set}
 use mathlib.Core.Bool.{not, false}
-use Rattle.game.specs.Summary.{someBelow}
-use Rattle.round.specs.RowLaws.{some-next, some-hit}
+use Rattle.search.specs.Below.{someBelow, some-next, some-hit}
 use Rattle.restriction.specs.Restriction.{isLegal}
 use Rattle.restriction.proofs.all_legal.Statement.{statement}
 use Rattle.restriction.proofs.all_legal.Tie as tie
-use Rattle.restriction.proofs.all_legal.Reads as reads
-use Rattle.restriction.proofs.all_legal.Lts as lts
-use Rattle.restriction.proofs.is_legal.Reads as is-legal-reads
 
 abbrev Inv-loop : tie.InvT-loop
 Inv-loop n owners choices flags v₀ v = (v ≤ n) × (someBelow (λ u. not (isLegal owners choices flags u)) v ≡ false)

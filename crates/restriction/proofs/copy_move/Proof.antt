@@ -1,15 +1,10 @@
 -- `copy_move` meets its contract: either way by the test that led to it.
-use Prim.Native.Nat.{ℕ, _+_, _-_, _≤_, _<_}
 use native.Mathlib.Omega.{arith}
 use borrow.Author.Needs.{needs}
 use mathlib.Core.Path.{sym, _∙_}
-use lib.ListN.{length, getD, set, length-set}
 use borrow.Author.Needs.{needs}
 use Rattle.restriction.proofs.copy_move.Statement.{statement}
 use Rattle.restriction.proofs.copy_move.Tie as tie
-use Rattle.restriction.proofs.copy_move.Reads as reads
-use Rattle.restriction.proofs.copy_move.Lts as lts
-use Rattle.restriction.proofs.stays.Reads as stays-reads
 
 stays-requires : tie.Need-stays-requires
 stays-requires c κs = search needs

@@ -1,19 +1,15 @@
 -- `flag_chosen` meets its contract: the invariant says that the first i moves have flagged the positions whose choice they lead to.
-use Prim.Native.Nat.{ℕ, _+_, _-_, _≤_, _<_}
+use Prim.Native.Nat.{_≤_, _-_}
 use native.Mathlib.Nat.{le-antisymm}
 use native.Mathlib.Omega.{arith}
-use borrow.Author.Needs.{needs}
-use mathlib.Core.Path.{_≡_, refl, sym, ap, _∙_}
-use lib.ListN.{length, getD, set, length-set}
-use Rattle.round.specs.RowLaws.{Noted, numberAt, noted-none, noted-next}
-use Rattle.round.specs.Round.{bit}
+use mathlib.Core.Path.{_≡_, refl}
+use lib.ListN.{length}
+use Rattle.search.specs.Below.{bit}
+use Rattle.rows.specs.Numbers.{numberAt}
+use Rattle.rows.specs.Notes.{Noted, noted-none, noted-next}
 use Rattle.restriction.specs.Restriction.{isChosen}
 use Rattle.restriction.proofs.flag_chosen.Statement.{statement}
 use Rattle.restriction.proofs.flag_chosen.Tie as tie
-use Rattle.restriction.proofs.flag_chosen.Reads as reads
-use Rattle.restriction.proofs.flag_chosen.Lts as lts
-use Rattle.round.proofs.flag_none.Reads as flag-none-reads
-use Rattle.restriction.proofs.flag_chosen_by.Reads as flag-chosen-by-reads
 
 abbrev Inv-loop : tie.InvT-loop
 Inv-loop n m costs froms tos choices flags₀ i₀ flags i = (i ≤ m) × (length flags ≡ length flags₀) × Noted n (numberAt froms) (isChosen costs froms tos choices) (λ v. bit) i flags
@@ -21,11 +17,11 @@ Inv-loop n m costs froms tos choices flags₀ i₀ flags i = (i ≤ m) × (lengt
 abbrev μ-loop : tie.MeasureT-loop
 μ-loop n m costs froms tos choices flags₀ i₀ flags i = m - i
 
-flag-none-requires : tie.Need-flag-none-requires Inv-loop μ-loop
-flag-none-requires c κs = omega arith
+clear-flags-requires : tie.Need-clear-flags-requires Inv-loop μ-loop
+clear-flags-requires c κs = omega arith
 
 loop-holds : tie.Need-loop-holds Inv-loop μ-loop
-loop-holds c = (omega arith, refl, noted-none (c .before .before .flag-none .ensures .row))
+loop-holds c = (omega arith, refl, noted-none (c .before .before .clear-flags .ensures .row))
 
 flag-chosen-by-requires : tie.Need-flag-chosen-by-requires Inv-loop μ-loop
 flag-chosen-by-requires c κs = omega (arith, c .before .before .before .before .before .before .before .before .before .before .before .before .pre .0 .from-inside _ (c .before .loop-test .taken))
@@ -54,7 +50,7 @@ flag-chosen-spec =
     (tie.spec
     Inv-loop
     μ-loop
-    flag-none-requires
+    clear-flags-requires
     loop-holds
     flag-chosen-by-requires
     add-i

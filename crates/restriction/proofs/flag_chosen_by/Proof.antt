@@ -1,15 +1,10 @@
 -- `flag_chosen_by` meets its contract: each way out by the tests that led to it.
-use Prim.Native.Nat.{ℕ, _+_, _-_, _≤_, _<_}
-use native.Mathlib.Omega.{arith}
 use borrow.Author.Needs.{needs}
-use lib.ListN.{length, getD, set, length-set}
 use borrow.Author.Needs.{needs}
 use Rattle.restriction.specs.Restriction.{isChosen}
-use Rattle.field.proofs.Cases.{cases}
+use Rattle.search.proofs.Cases.{cases}
 use Rattle.restriction.proofs.flag_chosen_by.Statement.{statement}
 use Rattle.restriction.proofs.flag_chosen_by.Tie as tie
-use Rattle.restriction.proofs.flag_chosen_by.Reads as reads
-use Rattle.restriction.proofs.flag_chosen_by.Lts as lts
 
 shared-slice-read-if1 : tie.Need-shared-slice-read-if1
 shared-slice-read-if1 c = search needs

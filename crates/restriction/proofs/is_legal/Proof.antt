@@ -1,15 +1,10 @@
 -- `is_legal` meets its contract: each answer by the test that led to it.
-use Prim.Native.Nat.{ℕ, _+_, _-_, _≤_, _<_}
-use native.Mathlib.Omega.{arith}
 use borrow.Author.Needs.{needs}
-use lib.ListN.{length, getD, set, length-set}
 use borrow.Author.Needs.{needs}
 use Rattle.restriction.specs.Restriction.{isLegal}
-use Rattle.field.proofs.Cases.{cases}
+use Rattle.search.proofs.Cases.{cases}
 use Rattle.restriction.proofs.is_legal.Statement.{statement}
 use Rattle.restriction.proofs.is_legal.Tie as tie
-use Rattle.restriction.proofs.is_legal.Reads as reads
-use Rattle.restriction.proofs.is_legal.Lts as lts
 
 shared-slice-read-if1 : tie.Need-shared-slice-read-if1
 shared-slice-read-if1 c = search needs

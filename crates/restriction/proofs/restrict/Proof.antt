@@ -1,17 +1,13 @@
 -- `restrict` meets its contract: the invariant says that of the first i moves those that stay are copied and counted.
-use Prim.Native.Nat.{ℕ, _+_, _-_, _≤_, _<_}
+use Prim.Native.Nat.{_≤_, _-_}
 use native.Mathlib.Nat.{le-antisymm}
 use native.Mathlib.Omega.{arith}
-use borrow.Author.Needs.{needs}
 use mathlib.Core.Path.{_≡_, refl}
-use lib.ListN.{length, getD, set, length-set}
+use lib.ListN.{length}
 use Rattle.restriction.specs.Restriction.{Copied}
 use Rattle.restriction.specs.RestrictionLaws.{copied-none, copied-next, copied-all, next-at-most}
 use Rattle.restriction.proofs.restrict.Statement.{statement}
 use Rattle.restriction.proofs.restrict.Tie as tie
-use Rattle.restriction.proofs.restrict.Reads as reads
-use Rattle.restriction.proofs.restrict.Lts as lts
-use Rattle.restriction.proofs.copy_move.Reads as copy-move-reads
 
 abbrev Inv-loop : tie.InvT-loop
 Inv-loop n m owners costs froms tos choices costskept₀ fromskept₀ toskept₀ count₀ i₀ costskept fromskept toskept count i =

@@ -1,15 +1,10 @@
 -- `stays` meets its contract: each answer by the tests that led to it.
-use Prim.Native.Nat.{ℕ, _+_, _-_, _≤_, _<_}
-use native.Mathlib.Omega.{arith}
 use borrow.Author.Needs.{needs}
-use lib.ListN.{length, getD, set, length-set}
 use borrow.Author.Needs.{needs}
 use Rattle.restriction.specs.Restriction.{moveStays}
-use Rattle.field.proofs.Cases.{cases}
+use Rattle.search.proofs.Cases.{cases}
 use Rattle.restriction.proofs.stays.Statement.{statement}
 use Rattle.restriction.proofs.stays.Tie as tie
-use Rattle.restriction.proofs.stays.Reads as reads
-use Rattle.restriction.proofs.stays.Lts as lts
 
 mul-from : tie.Need-mul-from
 mul-from c = search needs

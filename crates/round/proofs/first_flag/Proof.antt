@@ -1,14 +1,8 @@
 -- `first_flag` meets its contract: each answer by the test that led to it.
-use Prim.Native.Nat.{ℕ, _+_, _-_, _≤_, _<_}
-use native.Mathlib.Omega.{arith}
-use borrow.Author.Needs.{needs}
-use lib.ListN.{length, getD, set, length-set}
 use Rattle.round.specs.Round.{firstFlag}
-use Rattle.field.proofs.Cases.{cases}
+use Rattle.search.proofs.Cases.{cases}
 use Rattle.round.proofs.first_flag.Statement.{statement}
 use Rattle.round.proofs.first_flag.Tie as tie
-use Rattle.round.proofs.first_flag.Reads as reads
-use Rattle.round.proofs.first_flag.Lts as lts
 
 returns : tie.Need-returns
 unfolding firstFlag

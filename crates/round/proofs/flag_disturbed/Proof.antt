@@ -1,16 +1,11 @@
 -- `flag_disturbed` meets its contract: every position seeks the value, no flag is there at first, and a note sets one.
-use Prim.Native.Nat.{ℕ, _+_, _-_, _≤_, _<_}
 use native.Mathlib.Omega.{arith}
 use borrow.Author.Needs.{needs}
-use lib.ListN.{length, getD, set, length-set, replicate}
-use Rattle.round.specs.NoteLaws.{row-replicate, disturbed-noted}
+use lib.ListN.{replicate}
+use Rattle.rows.specs.Filling.{row-replicate}
+use Rattle.round.specs.NoteLaws.{disturbed-noted}
 use Rattle.round.proofs.flag_disturbed.Statement.{statement}
 use Rattle.round.proofs.flag_disturbed.Tie as tie
-use Rattle.round.proofs.flag_disturbed.Reads as reads
-use Rattle.round.proofs.flag_disturbed.Lts as lts
-use Rattle.round.proofs.note.Reads as note-reads
-use Rattle.round.proofs.show.Reads as show-reads
-use Rattle.round.proofs.turn.Reads as turn-reads
 
 slice-aggregate-show : tie.Need-slice-aggregate-show
 slice-aggregate-show c = search needs

@@ -1,20 +1,14 @@
 -- `flag_owners` meets its contract: the invariant says that the row is filled up to v and has kept its length.
-use Prim.Native.Nat.{ℕ, _+_, _-_, _≤_, _<_}
+use Prim.Native.Nat.{_≤_, _-_}
 use native.Mathlib.Nat.{le-antisymm}
 use native.Mathlib.Omega.{arith}
-use borrow.Author.Needs.{needs}
-use mathlib.Core.Path.{_≡_, refl, sym, _∙_}
-use lib.ListN.{length, getD, set, length-set}
+use mathlib.Core.Path.{sym, _∙_}
 use mathlib.Core.Bool.{true, false}
-use Rattle.round.specs.RowLaws.{filled-next}
-use Rattle.game.specs.Rows.{Filled}
-use Rattle.game.specs.Filling.{filled-none}
+use Rattle.rows.specs.Rows.{Filled}
+use Rattle.rows.specs.Filling.{filled-next, filled-none}
 use Rattle.round.specs.Round.{readyFlag, ready-flag-first}
 use Rattle.round.proofs.flag_owners.Statement.{statement}
 use Rattle.round.proofs.flag_owners.Tie as tie
-use Rattle.round.proofs.flag_owners.Reads as reads
-use Rattle.round.proofs.flag_owners.Lts as lts
-use Rattle.round.proofs.first_flag.Reads as first-flag-reads
 
 abbrev Inv-loop : tie.InvT-loop
 Inv-loop n owners flags₀ v₀ flags v = (v ≤ n) × Filled flags₀ flags v (λ j. readyFlag owners j false)

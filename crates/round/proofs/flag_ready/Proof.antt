@@ -1,17 +1,10 @@
 -- `flag_ready` meets its contract: the first flags are what each position seeks, and a note turns one over.
-use Prim.Native.Nat.{ℕ, _+_, _-_, _≤_, _<_}
 use native.Mathlib.Omega.{arith}
 use borrow.Author.Needs.{needs}
-use lib.ListN.{length, getD, set, length-set}
-use Rattle.round.specs.NoteLaws.{row-replicate, ready-noted}
+use Rattle.rows.specs.Filling.{row-replicate}
+use Rattle.round.specs.NoteLaws.{ready-noted}
 use Rattle.round.proofs.flag_ready.Statement.{statement}
 use Rattle.round.proofs.flag_ready.Tie as tie
-use Rattle.round.proofs.flag_ready.Reads as reads
-use Rattle.round.proofs.flag_ready.Lts as lts
-use Rattle.round.proofs.flag_owners.Reads as flag-owners-reads
-use Rattle.round.proofs.note.Reads as note-reads
-use Rattle.round.proofs.show.Reads as show-reads
-use Rattle.round.proofs.turn.Reads as turn-reads
 
 slice-aggregate-flag-owners : tie.Need-slice-aggregate-flag-owners
 slice-aggregate-flag-owners c = search needs

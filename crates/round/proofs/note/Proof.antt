@@ -1,24 +1,23 @@
 -- `note` meets its contract: the invariant says that the first i moves have left their notes, those aside past the n positions.
-use Prim.Native.Nat.{ℕ, _+_, _-_, _≤_, _<_}
+use Prim.Native.Nat.{_≤_, _-_}
 use native.Mathlib.Nat.{le-antisymm}
 use native.Mathlib.Omega.{arith}
-use borrow.Author.Needs.{needs}
 use mathlib.Core.Path.{_≡_, refl}
-use lib.ListN.{length, getD, set, length-set}
-use Rattle.round.specs.RowLaws.{Noted, numberAt, noted-none, noted-aside}
-use Rattle.round.specs.Round.{AtMove, at-move, meets, bit}
+use lib.ListN.{length}
+use Rattle.search.specs.Below.{bit}
+use Rattle.rows.specs.Rows.{at-move}
+use Rattle.rows.specs.Numbers.{numberAt}
+use Rattle.rows.specs.Notes.{Noted, noted-none, noted-aside, found}
+use Rattle.round.specs.Round.{meets}
 use Rattle.round.proofs.note.Statement.{statement}
 use Rattle.round.proofs.note.Tie as tie
-use Rattle.round.proofs.note.Reads as reads
-use Rattle.round.proofs.note.Lts as lts
-use Rattle.round.proofs.note_by.Reads as note-by-reads
 
 abbrev Inv-loop : tie.InvT-loop
-Inv-loop n m cost seeks shows costs froms tos found₀ i₀ found i =
-    (i ≤ m) × (length found ≡ length found₀) × Noted n (numberAt froms) (meets cost seeks shows costs froms tos) (λ v. bit) i found
+Inv-loop n m meant seeks shows costs froms tos found₀ i₀ found i =
+    (i ≤ m) × (length found ≡ length found₀) × Noted n (numberAt froms) (meets meant seeks shows costs froms tos) (λ v. bit) i found
 
 abbrev μ-loop : tie.MeasureT-loop
-μ-loop n m cost seeks shows costs froms tos found₀ i₀ found i = m - i
+μ-loop n m meant seeks shows costs froms tos found₀ i₀ found i = m - i
 
 loop-holds : tie.Need-loop-holds Inv-loop μ-loop
 loop-holds c = (omega arith, refl, noted-none (c .before .before .before .before .before .before .pre .5))

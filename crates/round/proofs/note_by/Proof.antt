@@ -1,16 +1,11 @@
 -- `note_by` meets its contract: the note is at a position or at 512, and so within the row.
-use Prim.Native.Nat.{ℕ, _+_, _-_, _≤_, _<_}
+use Prim.Native.Nat.{_≤_}
 use native.Mathlib.Omega.{arith}
 use borrow.Author.Needs.{needs}
-use mathlib.Core.Path.{_≡_, refl, sym, _∙_}
-use lib.ListN.{length, getD, set, length-set}
-use Rattle.round.specs.RowLaws.{spot-most}
+use Rattle.rows.specs.Notes.{spot-most}
 use Rattle.round.specs.Round.{meets}
 use Rattle.round.proofs.note_by.Statement.{statement}
 use Rattle.round.proofs.note_by.Tie as tie
-use Rattle.round.proofs.note_by.Reads as reads
-use Rattle.round.proofs.note_by.Lts as lts
-use Rattle.round.proofs.spot.Reads as spot-reads
 
 mul-from : tie.Need-mul-from
 mul-from c = search needs

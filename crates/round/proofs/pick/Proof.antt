@@ -1,9 +1,7 @@
 -- `pick` meets its contract: each answer by the test that led to it.
-use Rattle.field.proofs.Cases.{cases}
+use Rattle.search.proofs.Cases.{cases}
 use Rattle.round.proofs.pick.Statement.{statement}
 use Rattle.round.proofs.pick.Tie as tie
-use Rattle.round.proofs.pick.Reads as reads
-use Rattle.round.proofs.pick.Lts as lts
 
 returns : tie.Need-returns
 returns c = search cases

@@ -1,17 +1,13 @@
 -- `place` meets its contract: the invariant says that the round has been carried out at the positions below v.
-use Prim.Native.Nat.{ℕ, _+_, _-_, _≤_, _<_}
+use Prim.Native.Nat.{_≤_, _-_}
 use native.Mathlib.Nat.{le-antisymm}
 use native.Mathlib.Omega.{arith}
-use borrow.Author.Needs.{needs}
 use mathlib.Core.Path.{_≡_, refl}
-use lib.ListN.{length, getD, set, length-set}
+use lib.ListN.{length}
 use Rattle.round.specs.Round.{Placing}
 use Rattle.round.specs.PlaceLaws.{placing-none, placing-next, one-at-most}
 use Rattle.round.proofs.place.Statement.{statement}
 use Rattle.round.proofs.place.Tie as tie
-use Rattle.round.proofs.place.Reads as reads
-use Rattle.round.proofs.place.Lts as lts
-use Rattle.round.proofs.place_one.Reads as place-one-reads
 
 abbrev Inv-loop : tie.InvT-loop
 Inv-loop n flags k s values₀ steps₀ count₀ v₀ values steps count v =

@@ -1,17 +1,9 @@
 -- `place_one` meets its contract: what it stores is the round's number where the round takes the position, and else what was there.
-use Prim.Native.Nat.{ℕ, _+_, _-_, _≤_, _<_}
-use native.Mathlib.Omega.{arith}
-use mathlib.Core.Path.{_≡_, refl, sym, _∙_}
-use lib.ListN.{length, getD, set, length-set}
 use Rattle.round.specs.Round.{taken}
 use Rattle.round.specs.PlaceLaws.{set-picked}
 use borrow.Author.Needs.{needs}
 use Rattle.round.proofs.place_one.Statement.{statement}
 use Rattle.round.proofs.place_one.Tie as tie
-use Rattle.round.proofs.place_one.Reads as reads
-use Rattle.round.proofs.place_one.Lts as lts
-use Rattle.round.proofs.pick.Reads as pick-reads
-use Rattle.round.proofs.takes.Reads as takes-reads
 
 shared-slice-read-takes : tie.Need-shared-slice-read-takes
 shared-slice-read-takes c = search needs

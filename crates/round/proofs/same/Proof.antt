@@ -1,9 +1,7 @@
 -- `same` meets its contract: each answer by the test that led to it.
-use Rattle.field.proofs.Cases.{cases}
+use Rattle.search.proofs.Cases.{cases}
 use Rattle.round.proofs.same.Statement.{statement}
 use Rattle.round.proofs.same.Tie as tie
-use Rattle.round.proofs.same.Reads as reads
-use Rattle.round.proofs.same.Lts as lts
 
 returns : tie.Need-returns
 returns c = search cases

@@ -1,21 +1,16 @@
 -- `show` meets its contract: the invariant says that the row is filled up to v and has kept its length.
-use Prim.Native.Nat.{ℕ, _+_, _-_, _≤_, _<_}
+use Prim.Native.Nat.{_≤_, _-_}
 use native.Mathlib.Nat.{le-antisymm}
 use native.Mathlib.Omega.{arith}
-use borrow.Author.Needs.{needs}
-use mathlib.Core.Path.{_≡_, refl, sym, _∙_}
-use lib.ListN.{length, getD, set, length-set}
+use mathlib.Core.Path.{sym}
+use lib.ListN.{getD}
 use lib.Dec.{eqb}
-use mathlib.Core.Bool.{true, not}
-use Rattle.round.specs.RowLaws.{filled-next}
-use Rattle.round.specs.Round.{bit}
-use Rattle.game.specs.Rows.{Filled}
-use Rattle.game.specs.Filling.{filled-none}
+use mathlib.Core.Bool.{true}
+use Rattle.search.specs.Below.{bit}
+use Rattle.rows.specs.Rows.{Filled}
+use Rattle.rows.specs.Filling.{filled-next, filled-none}
 use Rattle.round.proofs.show.Statement.{statement}
 use Rattle.round.proofs.show.Tie as tie
-use Rattle.round.proofs.show.Reads as reads
-use Rattle.round.proofs.show.Lts as lts
-use Rattle.round.proofs.same.Reads as same-reads
 
 abbrev Inv-loop : tie.InvT-loop
 Inv-loop n k values shows₀ v₀ shows v = (v ≤ n) × Filled shows₀ shows v (λ j. bit (eqb (getD values j 0) k))

@@ -1,9 +1,7 @@
 -- `takes` meets its contract: each answer by the test that led to it.
-use Rattle.field.proofs.Cases.{cases}
+use Rattle.search.proofs.Cases.{cases}
 use Rattle.round.proofs.takes.Statement.{statement}
 use Rattle.round.proofs.takes.Tie as tie
-use Rattle.round.proofs.takes.Reads as reads
-use Rattle.round.proofs.takes.Lts as lts
 
 returns : tie.Need-returns
 returns c = search cases

@@ -1,21 +1,17 @@
 -- `turn` meets its contract: the invariant says that the row is filled up to v and has kept its length.
-use Prim.Native.Nat.{ℕ, _+_, _-_, _≤_, _<_}
+use Prim.Native.Nat.{_≤_, _-_}
 use native.Mathlib.Nat.{le-antisymm}
 use native.Mathlib.Omega.{arith}
-use borrow.Author.Needs.{needs}
-use mathlib.Core.Path.{_≡_, refl, sym, _∙_}
-use lib.ListN.{length, getD, set, length-set}
+use mathlib.Core.Path.{sym}
+use lib.ListN.{getD}
 use lib.Dec.{eqb}
 use mathlib.Core.Bool.{true, not}
-use Rattle.round.specs.RowLaws.{filled-next}
-use Rattle.round.specs.Round.{bit}
-use Rattle.game.specs.Rows.{Filled}
-use Rattle.game.specs.Filling.{filled-none}
+use Rattle.search.specs.Below.{bit}
+use Rattle.rows.specs.Rows.{Filled}
+use Rattle.rows.specs.Notes.{found}
+use Rattle.rows.specs.Filling.{filled-next, filled-none}
 use Rattle.round.proofs.turn.Statement.{statement}
 use Rattle.round.proofs.turn.Tie as tie
-use Rattle.round.proofs.turn.Reads as reads
-use Rattle.round.proofs.turn.Lts as lts
-use Rattle.round.proofs.turned.Reads as turned-reads
 
 abbrev Inv-loop : tie.InvT-loop
 Inv-loop n firsts found flags₀ v₀ flags v = (v ≤ n) × Filled flags₀ flags v (λ j. bit (not (eqb (getD firsts j 0) (getD found j 0))))

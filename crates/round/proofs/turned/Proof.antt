@@ -1,9 +1,7 @@
 -- `turned` meets its contract: each answer by the test that led to it.
-use Rattle.field.proofs.Cases.{cases}
+use Rattle.search.proofs.Cases.{cases}
 use Rattle.round.proofs.turned.Statement.{statement}
 use Rattle.round.proofs.turned.Tie as tie
-use Rattle.round.proofs.turned.Reads as reads
-use Rattle.round.proofs.turned.Lts as lts
 
 returns : tie.Need-returns
 returns c = search cases

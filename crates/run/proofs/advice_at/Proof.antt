@@ -2,15 +2,12 @@
 use Prim.Native.Nat.{_-_}
 use native.Mathlib.Omega.{arith}
 use borrow.Author.Needs.{needs}
-use Rattle.plate.specs.Form.{secondAt, thirdAt}
+use Rattle.plate.specs.Form.{columnAt}
 use Rattle.plate.specs.Read.{valueIn, choiceIn}
 use Rattle.plate.specs.ReadLaws.{position-fits}
 use Rattle.run.specs.Running.{adviceAt}
 use Rattle.run.proofs.advice_at.Statement.{statement}
 use Rattle.run.proofs.advice_at.Tie as tie
-use Rattle.run.proofs.advice_at.Reads as reads
-use Rattle.run.proofs.advice_at.Lts as lts
-use Rattle.plate.proofs.number_at.Reads as number-at-reads
 
 add-at : tie.Need-add-at
 add-at c = search needs
@@ -22,7 +19,7 @@ add-number-at : tie.Need-add-number-at
 add-number-at c = search needs
 
 number-at-requires : tie.Need-number-at-requires
-unfolding thirdAt
+unfolding columnAt
 number-at-requires c κs =
     let pre = c .before .pre in
     let fits = position-fits _ _ (pre .0) (pre .1) _ (pre .2) in
@@ -32,14 +29,14 @@ add-number-at-2 : tie.Need-add-number-at-2
 add-number-at-2 c = search needs
 
 number-at-requires-2 : tie.Need-number-at-requires-2
-unfolding secondAt
+unfolding columnAt
 number-at-requires-2 c κs =
     let pre = c .before .before .pre in
     let fits = position-fits _ _ (pre .0) (pre .1) _ (pre .2) in
     (omega (arith, fits .inside), fits .second)
 
 returns : tie.Need-returns
-unfolding adviceAt choiceIn valueIn thirdAt secondAt
+unfolding adviceAt choiceIn valueIn columnAt
 returns c = rw (c .before .number-at .ensures, c .number-at2 .ensures)
 
 pub advice-at-spec : {M : Type 1} → statement M

@@ -7,13 +7,6 @@ use Rattle.run.specs.Running.{moved, reportedMove}
 use Rattle.run.specs.RunningLaws.{choice-of, inside-report, own-outside, to-outside}
 use Rattle.run.proofs.report_formed.Statement.{statement}
 use Rattle.run.proofs.report_formed.Tie as tie
-use Rattle.run.proofs.report_formed.Reads as reads
-use Rattle.run.proofs.report_formed.Lts as lts
-use Rattle.run.proofs.Run.moved.Reads as moved-reads
-use Rattle.run.proofs.Run.unmoved.Reads as unmoved-reads
-use Rattle.run.proofs.advice_at.Reads as advice-at-reads
-use Rattle.moves.proofs.move_kind.Reads as move-kind-reads
-use Rattle.run.proofs.stand.Reads as stand-reads
 
 unmoved-requires : tie.Need-unmoved-requires
 unmoved-requires c κs = search needs
@@ -33,7 +26,7 @@ advice-at-requires c κs = search needs
 move-kind-requires : tie.Need-move-kind-requires
 move-kind-requires c κs =
     let pre = c .before .before .before .before .before .before .before .before .pre in
-    (pre .0, c .before .before .if1 .left, omega (arith, pre), omega (arith, pre))
+    (pre .0, c .before .before .if1 .left, omega (arith, pre .0 .1 .1 .few-positions, c .before .if2 .left))
 
 enum-told : tie.Need-enum-told
 enum-told c = search needs
@@ -51,7 +44,7 @@ stand-requires : tie.Need-stand-requires
 unfolding moved
 stand-requires c κs =
     let pre = c .before .before .before .before .before .before .before .before .before .before .before .before .pre in
-    (pre .1, pre .3, rw (c .moved .ensures) (c .before .before .before .before .before .if2 .left))
+    (pre .0 .1 .1 .few-positions, pre .1, rw (c .moved .ensures) (c .before .before .before .before .before .if2 .left))
 
 enum-told-3 : tie.Need-enum-told-3
 enum-told-3 c = search needs
@@ -77,7 +70,7 @@ stand-requires-2 : tie.Need-stand-requires-2
 unfolding moved
 stand-requires-2 c κs =
     let pre = c .before .before .before .before .before .before .before .before .before .before .before .before .before .pre in
-    (pre .1, pre .3, rw (c .moved2 .ensures) (c .before .before .before .before .before .before .if2 .left))
+    (pre .0 .1 .1 .few-positions, pre .1, rw (c .moved2 .ensures) (c .before .before .before .before .before .before .if2 .left))
 
 returns-4 : tie.Need-returns-4
 unfolding reportedMove

@@ -4,11 +4,6 @@ use mathlib.Core.Path.{sym, _∙_}
 use Rattle.run.specs.RunningLaws.{bad-report, formed-report}
 use Rattle.run.proofs.report_rows.Statement.{statement}
 use Rattle.run.proofs.report_rows.Tie as tie
-use Rattle.run.proofs.report_rows.Reads as reads
-use Rattle.run.proofs.report_rows.Lts as lts
-use Rattle.plate.proofs.examine_plate.Reads as examine-plate-reads
-use Rattle.run.proofs.Run.unmoved.Reads as unmoved-reads
-use Rattle.run.proofs.report_formed.Reads as report-formed-reads
 
 examine-plate-requires : tie.Need-examine-plate-requires
 examine-plate-requires c κs = search needs
@@ -25,7 +20,7 @@ enum-told c = search needs
 report-formed-requires : tie.Need-report-formed-requires
 report-formed-requires c κs =
     let pre = c .before .before .before .before .before .before .before .before .pre in
-    (pre .0, pre .1, pre .2, sym (c .before .before .examine-plate .ensures) ∙ c .enum-told .given .1)
+    (pre, sym (c .before .before .examine-plate .ensures) ∙ c .enum-told .given .1)
 
 returns : tie.Need-returns
 returns c = rw (c .unmoved .ensures) (bad-report _ _ _ (sym (c .before .before .before .before .examine-plate .ensures) ∙ c .before .before .line .given .1))

@@ -4,9 +4,6 @@ use borrow.Author.Needs.{needs}
 use Rattle.run.specs.Running.{standing}
 use Rattle.run.proofs.stand.Statement.{statement}
 use Rattle.run.proofs.stand.Tie as tie
-use Rattle.run.proofs.stand.Reads as reads
-use Rattle.run.proofs.stand.Lts as lts
-use Rattle.run.proofs.advice_at.Reads as advice-at-reads
 
 advice-at-requires : tie.Need-advice-at-requires
 advice-at-requires c κs = search needs

@@ -1,16 +1,11 @@
 -- `solve_restricted` meets its contract: the copied moves are those of the restricted arena, which the solver solves.
-use Prim.Native.Nat.{ℕ, _+_, _-_, _≤_, _<_}
 use native.Mathlib.Omega.{arith}
 use borrow.Author.Needs.{needs}
-use lib.ListN.{length, getD, set, length-set}
 use borrow.Author.Needs.{needs}
-use Rattle.weighing.specs.WeighingLaws.{copied-within, copied-fewer, restricted-solved}
+use Rattle.rows.specs.RowsLaws.{rows-within}
+use Rattle.weighing.specs.WeighingLaws.{copied-rows, copied-fewer, restricted-solved}
 use Rattle.weighing.proofs.solve_restricted.Statement.{statement}
 use Rattle.weighing.proofs.solve_restricted.Tie as tie
-use Rattle.weighing.proofs.solve_restricted.Reads as reads
-use Rattle.weighing.proofs.solve_restricted.Lts as lts
-use Rattle.solver.proofs.solve.solve.Reads as solve-reads
-use Rattle.restriction.proofs.restrict.Reads as restrict-reads
 
 slice-aggregate-restrict : tie.Need-slice-aggregate-restrict
 slice-aggregate-restrict c = search needs
@@ -22,7 +17,10 @@ slice-aggregate-restrict-3 : tie.Need-slice-aggregate-restrict-3
 slice-aggregate-restrict-3 c = search needs
 
 restrict-requires : tie.Need-restrict-requires
-restrict-requires c κs = search needs
+restrict-requires c κs =
+    let pre = c .before .before .before .before .before .before .before .before .before .before .pre in
+    let d = pre .0 .1 .0 in
+    ((rows-within d, d .owners-row, pre .1), (omega (arith, d .few-moves), omega (arith, d .few-moves), omega (arith, d .few-moves)))
 
 slice-aggregate-solve : tie.Need-slice-aggregate-solve
 slice-aggregate-solve c = search needs
@@ -40,21 +38,26 @@ solve-requires : tie.Need-solve-requires
 solve-requires c κs =
     let start = c .before .before .before .before .before .before .before .before .before .before .before .before .before .before .before .before .before .before .before in
     let restrict = c .before .before .before .before .before .before .before .before .restrict in
-    let few = copied-fewer (restrict .ensures) in
+    let pre = start .pre in
+    let d = pre .0 .1 .0 in
+    let fewer = copied-fewer (restrict .ensures) in
+    let few = d .few-moves in
     let kept = restrict .kept .1 .1 .1 .1 .1 .1 .1 in (
-      copied-within (start .pre .0) (restrict .ensures) (omega (arith, start .pre, few, kept)) (omega (arith, start .pre, few, kept)) (omega (arith, start .pre, few, kept)),
-      start .pre .1,
-      start .pre .3,
-      start .pre .4,
-      start .pre .6,
-      start .pre .1,
+      (_, copied-rows _ _ _ _ _ _ _ _ _ d _ _ _ _ (restrict .ensures) (pre .0 .1 .1) (omega (arith, few, fewer, kept)) (omega (arith, few, fewer, kept)) (omega (arith, few, fewer, kept))),
+      pre .2,
+      d .few-positions,
     )
 
 same-length : tie.Need-same-length
 same-length c = search needs
 
 returns : tie.Need-returns
-returns c = restricted-solved (c .before .before .before .before .before .before .before .before .before .before .before .before .before .before .before .before .before .before .before .before .before .before .before .pre .1) (c .before .before .before .before .before .before .before .before .before .before .before .before .restrict .ensures) (c .before .before .before .solve .ensures)
+returns c =
+    let restrict = c .before .before .before .before .before .before .before .before .before .before .before .before .restrict in
+    let few = c .before .before .before .before .before .before .before .before .before .before .before .before .before .before .before .before .before .before .before .before .before .before .before .pre .0 .1 .0 .few-moves in
+    let fewer = copied-fewer (restrict .ensures) in
+    let kept = restrict .kept .1 .1 .1 .1 .1 .1 .1 in
+    restricted-solved (restrict .ensures) (omega (arith, few, fewer, kept)) (omega (arith, few, fewer, kept)) (omega (arith, few, fewer, kept)) (c .before .before .before .solve .ensures)
 
 pub solve-restricted-spec : {M : Type 1} → statement M
 solve-restricted-spec =

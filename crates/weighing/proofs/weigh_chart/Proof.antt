@@ -1,21 +1,22 @@
 -- `weigh_chart` meets its contract: the chart's refusal is handed on, a short row is 10, an illegal choice 12, and loaded rows
 -- are weighed.
-use Prim.Native.Nat.{ℕ, _+_, _-_, _≤_, _<_}
-use native.Mathlib.Omega.{arith}
 use borrow.Author.Needs.{needs}
-use mathlib.Core.Path.{sym, _∙_}
+use denote.Ref.{now}
+use mathlib.Core.Path.{_≡_, sym, _∙_}
 use borrow.Author.Tests.{le-leb}
-use lib.ListN.{length, getD, set, length-set}
-use borrow.Author.Needs.{needs}
-use Rattle.field.proofs.Cases.{cases}
-use Rattle.value.specs.ValuingLaws.{loaded-decoded, loaded-marks, loaded-within, few-positions, few-moves}
+use Rattle.search.proofs.Cases.{cases}
+use Rattle.chart.specs.Examined.{examined}
+use Rattle.chart.specs.declared.Examination.the-variants.{Accepted}
 use Rattle.weighing.specs.WeighingLaws.{weighed-refused, weighed-short, weighed-taken, weighed-unfair}
 use Rattle.weighing.proofs.weigh_chart.Statement.{statement}
 use Rattle.weighing.proofs.weigh_chart.Tie as tie
-use Rattle.weighing.proofs.weigh_chart.Reads as reads
-use Rattle.weighing.proofs.weigh_chart.Lts as lts
-use Rattle.decode.proofs.load.Reads as load-reads
-use Rattle.weighing.proofs.weigh_rows.Reads as weigh-rows-reads
+
+-- where the chart is known to be accepted, it was loaded before
+abbrev loading : tie.After-chart → tie.After-load
+loading c = c .before .before .before .before .before .before .before
+
+accepted : (c : tie.After-chart) → examined (now (loading c .before .before .before .before .before .before .before .before .before .args .text)) ≡ Accepted (c .chart .given .0 .0)
+accepted c = sym (loading c .load .ensures .answer) ∙ c .chart .given .1
 
 slice-aggregate-load : tie.Need-slice-aggregate-load
 slice-aggregate-load c = search needs
@@ -42,10 +43,10 @@ enum-known-chart : tie.Need-enum-known-chart
 enum-known-chart c = search needs
 
 returns : tie.Need-returns
-returns c = weighed-short (sym (c .before .before .before .before .before .before .before .before .before .load .ensures .answer) ∙ c .before .before .chart .given .1) (search cases)
+returns c = weighed-short (accepted (c .before .before)) (search cases)
 
 returns-2 : tie.Need-returns-2
-returns-2 c = weighed-short (sym (c .before .before .before .before .before .before .before .before .before .before .load .ensures .answer) ∙ c .before .before .before .chart .given .1) (search cases)
+returns-2 c = weighed-short (accepted (c .before .before .before)) (search cases)
 
 slice-aggregate-weigh-rows : tie.Need-slice-aggregate-weigh-rows
 slice-aggregate-weigh-rows c = search needs
@@ -64,32 +65,20 @@ slice-aggregate-weigh-rows-5 c = search needs
 
 weigh-rows-requires : tie.Need-weigh-rows-requires
 weigh-rows-requires c κs =
-    let chosen = c .before .before .before .before .before .before .before .before .before .chart in
-    let load = c .before .before .before .before .before .before .before .before .before .before .before .before .before .before .before .before .load in
-    let e = sym (load .ensures .answer) ∙ chosen .given .1 in
-    let loaded = load .ensures .taken _ (chosen .given .1) in
-    let few = few-positions _ _ e _ _ _ _ _ _ _ _ _ _ loaded in (
-      loaded-within _ _ e _ _ _ _ _ _ _ _ _ _ loaded (omega (arith, load .kept)) (omega (arith, load .kept)) (omega (arith, load .kept)),
-      few,
-      few-moves _ _ e _ _ _ _ _ _ _ _ _ _ loaded,
-      omega (arith, few, load .kept),
-      omega (arith, few, load .kept),
-      c .before .before .before .before .before .before .before .if1 .left,
-      c .before .before .before .before .before .before .if2 .left,
-    )
+    let room = c .before .before .before .before .before .before in
+    let known = room .before .before .before in
+    ((_, loading known .load .ensures .taken _ (known .chart .given .1) .rows), room .before .if1 .left, room .if2 .left)
 
 same-length : tie.Need-same-length
 same-length c = search needs
 
 returns-3 : tie.Need-returns-3
 returns-3 c =
-    let chosen = c .before .before .before .before .before .before .before .before .before .before .before .before .before .chart in
-    let load = c .before .before .before .before .before .before .before .before .before .before .before .before .before .before .before .before .before .before .before .before .load in
-    let e = sym (load .ensures .answer) ∙ chosen .given .1 in
-    let loaded = load .ensures .taken _ (chosen .given .1) in
-    let d = loaded-decoded _ _ e _ _ _ _ _ _ _ _ _ _ loaded in
-    let marks = loaded-marks _ _ e _ _ _ _ _ _ _ _ _ _ loaded in
-    weighed-taken e (simp (le-leb _ _ (c .before .before .before .before .before .before .before .before .before .before .before .if1 .left), le-leb _ _ (c .before .before .before .before .before .before .before .before .before .before .if2 .left))) d marks (c .before .before .before .weigh-rows .ensures) (c .if3 .taken)
+    let weighing = c .before .before .before in
+    let room = weighing .before .before .before .before .before .before .before in
+    let known = room .before .before .before in
+    weighed-taken (accepted known) (simp (le-leb _ _ (room .before .if1 .left), le-leb _ _ (room .if2 .left))) (loading known .load .ensures .taken _ (known .chart .given .1) .rows)
+    (weighing .weigh-rows .ensures) (c .if3 .taken)
 
 returns-4 : tie.Need-returns-4
 returns-4 c = weighed-refused (sym (c .before .before .before .before .before .before .before .before .load .ensures .answer) ∙ c .before .r .given .1)
@@ -99,13 +88,11 @@ same-length-2 c = search needs
 
 returns-5 : tie.Need-returns-5
 returns-5 c =
-    let chosen = c .before .before .before .before .before .before .before .before .before .before .before .before .before .chart in
-    let load = c .before .before .before .before .before .before .before .before .before .before .before .before .before .before .before .before .before .before .before .before .load in
-    let e = sym (load .ensures .answer) ∙ chosen .given .1 in
-    let loaded = load .ensures .taken _ (chosen .given .1) in
-    let d = loaded-decoded _ _ e _ _ _ _ _ _ _ _ _ _ loaded in
-    let marks = loaded-marks _ _ e _ _ _ _ _ _ _ _ _ _ loaded in
-    weighed-unfair e (simp (le-leb _ _ (c .before .before .before .before .before .before .before .before .before .before .before .if1 .left), le-leb _ _ (c .before .before .before .before .before .before .before .before .before .before .if2 .left))) d marks (c .before .before .before .weigh-rows .ensures) (c .if3 .left)
+    let weighing = c .before .before .before in
+    let room = weighing .before .before .before .before .before .before .before in
+    let known = room .before .before .before in
+    weighed-unfair (accepted known) (simp (le-leb _ _ (room .before .if1 .left), le-leb _ _ (room .if2 .left))) (loading known .load .ensures .taken _ (known .chart .given .1) .rows)
+    (weighing .weigh-rows .ensures) (c .if3 .left)
 
 pub weigh-chart-spec : {M : Type 1} → statement M
 weigh-chart-spec =

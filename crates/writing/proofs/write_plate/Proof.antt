@@ -1,21 +1,24 @@
 -- `write_plate` meets its contract: the chart's refusal is handed on, a short buffer is 10, and loaded rows are valued and
 -- written.
-use Prim.Native.Nat.{ℕ, _+_, _-_, _≤_, _<_}
+use Prim.Native.Nat.{_-_}
 use native.Mathlib.Omega.{arith}
 use borrow.Author.Needs.{needs}
-use mathlib.Core.Path.{sym, _∙_}
+use denote.Ref.{now}
+use mathlib.Core.Path.{_≡_, sym, _∙_}
 use borrow.Author.Tests.{le-leb}
-use lib.ListN.{length, getD, set, length-set}
-use borrow.Author.Needs.{needs}
-use Rattle.field.proofs.Cases.{cases}
-use Rattle.value.specs.ValuingLaws.{loaded-decoded, loaded-marks, loaded-decodable, loaded-within, few-positions}
+use Rattle.search.proofs.Cases.{cases}
+use Rattle.chart.specs.Examined.{examined}
+use Rattle.chart.specs.declared.Examination.the-variants.{Accepted}
 use Rattle.writing.specs.WritingLaws.{written-refused, written-short, written-taken}
 use Rattle.writing.proofs.write_plate.Statement.{statement}
 use Rattle.writing.proofs.write_plate.Tie as tie
-use Rattle.writing.proofs.write_plate.Reads as reads
-use Rattle.writing.proofs.write_plate.Lts as lts
-use Rattle.decode.proofs.load.Reads as load-reads
-use Rattle.writing.proofs.write_valued.Reads as write-valued-reads
+
+-- where the chart is known to be accepted, it was loaded before
+abbrev loading : tie.After-chart → tie.After-load
+loading c = c .before .before .before .before .before .before .before
+
+accepted : (c : tie.After-chart) → examined (now (loading c .before .before .before .before .before .before .before .before .args .text)) ≡ Accepted (c .chart .given .0 .0)
+accepted c = sym (loading c .load .ensures .answer) ∙ c .chart .given .1
 
 slice-aggregate-load : tie.Need-slice-aggregate-load
 slice-aggregate-load c = search needs
@@ -42,25 +45,13 @@ enum-known-chart : tie.Need-enum-known-chart
 enum-known-chart c = search needs
 
 add-size : tie.Need-add-size
-add-size c =
-    let chosen = c .before .chart in
-    let load = c .before .before .before .before .before .before .before .before .load in
-    let e = sym (load .ensures .answer) ∙ chosen .given .1 in
-    let loaded = load .ensures .taken _ (chosen .given .1) in
-    let few = few-positions _ _ e _ _ _ _ _ _ _ _ _ _ loaded in
-    omega (arith, few)
+add-size c = let known = c .before in omega (arith, loading known .load .ensures .taken _ (known .chart .given .1) .rows .few-positions)
 
 mul-size : tie.Need-mul-size
-mul-size c =
-    let chosen = c .before .chart in
-    let load = c .before .before .before .before .before .before .before .before .load in
-    let e = sym (load .ensures .answer) ∙ chosen .given .1 in
-    let loaded = load .ensures .taken _ (chosen .given .1) in
-    let few = few-positions _ _ e _ _ _ _ _ _ _ _ _ _ loaded in
-    omega (arith, few)
+mul-size c = let known = c .before in omega (arith, loading known .load .ensures .taken _ (known .chart .given .1) .rows .few-positions)
 
 returns : tie.Need-returns
-returns c = written-short (sym (c .before .before .before .before .before .before .before .before .before .load .ensures .answer) ∙ c .before .before .chart .given .1) (search cases)
+returns c = written-short (accepted (c .before .before)) (search cases)
 
 slice-aggregate-write-valued : tie.Need-slice-aggregate-write-valued
 slice-aggregate-write-valued c = search needs
@@ -79,20 +70,9 @@ slice-aggregate-write-valued-5 c = search needs
 
 write-valued-requires : tie.Need-write-valued-requires
 write-valued-requires c κs =
-    let chosen = c .before .before .before .before .before .before .before .before .chart in
-    let load = c .before .before .before .before .before .before .before .before .before .before .before .before .before .before .before .load in
-    let e = sym (load .ensures .answer) ∙ chosen .given .1 in
-    let loaded = load .ensures .taken _ (chosen .given .1) in
-    let few = few-positions _ _ e _ _ _ _ _ _ _ _ _ _ loaded in (
-      (
-        loaded-within _ _ e _ _ _ _ _ _ _ _ _ _ loaded (omega (arith, load .kept)) (omega (arith, load .kept)) (omega (arith, load .kept)),
-        few,
-        omega (arith, few, load .kept),
-        omega (arith, few, load .kept),
-        c .before .before .before .before .before .before .if1 .left,
-      ),
-      loaded-decodable _ _ e _ _ _ _ _ _ _ _ _ _ loaded,
-    )
+    let room = c .before .before .before .before .before .before in
+    let known = room .before .before in
+    ((_, loading known .load .ensures .taken _ (known .chart .given .1) .rows), room .if1 .left)
 
 returns-2 : tie.Need-returns-2
 returns-2 c = written-refused (sym (c .before .before .before .before .before .before .before .before .load .ensures .answer) ∙ c .before .r .given .1)
@@ -102,11 +82,10 @@ same-length c = search needs
 
 returns-3 : tie.Need-returns-3
 returns-3 c =
-    let chosen = c .before .before .before .before .before .before .before .before .before .before .before .chart in
-    let load = c .before .before .before .before .before .before .before .before .before .before .before .before .before .before .before .before .before .before .load in
-    let e = sym (load .ensures .answer) ∙ chosen .given .1 in
-    let loaded = load .ensures .taken _ (chosen .given .1) in
-    written-taken e (le-leb _ _ (c .before .before .before .before .before .before .before .before .before .if1 .left)) (loaded-decoded _ _ e _ _ _ _ _ _ _ _ _ _ loaded) (loaded-marks _ _ e _ _ _ _ _ _ _ _ _ _ loaded) (c .before .before .write-valued .ensures)
+    let writing = c .before .before in
+    let room = writing .before .before .before .before .before .before .before in
+    let known = room .before .before in
+    written-taken (accepted known) (le-leb _ _ (room .if1 .left)) (loading known .load .ensures .taken _ (known .chart .given .1) .rows) (writing .write-valued .ensures)
 
 pub write-plate-spec : {M : Type 1} → statement M
 write-plate-spec =

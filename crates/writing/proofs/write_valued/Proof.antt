@@ -1,16 +1,10 @@
 -- `write_valued` meets its contract: the rows are the arena's, and so is their plate.
-use Prim.Native.Nat.{ℕ, _+_, _-_, _≤_, _<_}
-use native.Mathlib.Omega.{arith}
+use Prim.Native.Nat.{_-_}
 use borrow.Author.Needs.{needs}
-use lib.ListN.{length, getD, set, length-set}
 use borrow.Author.Needs.{needs}
 use Rattle.writing.specs.WritingLaws.{plate-written}
 use Rattle.writing.proofs.write_valued.Statement.{statement}
 use Rattle.writing.proofs.write_valued.Tie as tie
-use Rattle.writing.proofs.write_valued.Reads as reads
-use Rattle.writing.proofs.write_valued.Lts as lts
-use Rattle.plate_lines.proofs.write_rows.Reads as write-rows-reads
-use Rattle.value.proofs.valuing.value_rows.Reads as value-rows-reads
 
 slice-aggregate-value-rows : tie.Need-slice-aggregate-value-rows
 slice-aggregate-value-rows c = search needs
@@ -40,7 +34,7 @@ same-length : tie.Need-same-length
 same-length c = search needs
 
 returns : tie.Need-returns
-returns c = plate-written (c .before .before .before .before .before .before .before .before .before .before .before .before .before .before .before .before .before .before .before .before .pre .0 .1) (c .before .before .before .before .before .before .before .before .before .before .value-rows .ensures) (c .before .before .write-rows .ensures)
+returns c = plate-written (c .before .before .before .before .before .before .before .before .before .before .value-rows .ensures) (c .before .before .write-rows .ensures)
 
 pub write-valued-spec : {M : Type 1} → statement M
 write-valued-spec =

@@ -4,8 +4,6 @@ use mathlib.Core.Path.{refl}
 use Rattle.run.specs.Running.{moved}
 use Rattle.run.proofs.Run.moved.Statement.{statement}
 use Rattle.run.proofs.Run.moved.Tie as tie
-use Rattle.run.proofs.Run.moved.Reads as reads
-use Rattle.run.proofs.Run.moved.Lts as lts
 
 returns : tie.Need-returns
 unfolding moved

@@ -1,16 +1,19 @@
 -- `Run::report` meets its contract: the chart's refusal is handed on, and a loaded chart's rows answer the report.
-use native.Mathlib.Omega.{arith}
 use borrow.Author.Needs.{needs}
-use mathlib.Core.Path.{sym, _∙_}
-use Rattle.value.specs.ValuingLaws.{few-positions, loaded-decoded, loaded-within}
+use denote.Ref.{now}
+use mathlib.Core.Path.{_≡_, sym, _∙_}
+use Rattle.chart.specs.Examined.{examined}
+use Rattle.chart.specs.declared.Examination.the-variants.{Accepted}
 use Rattle.run.specs.RunningLaws.{report-refused, report-taken}
 use Rattle.run.proofs.Run.report.Statement.{statement}
 use Rattle.run.proofs.Run.report.Tie as tie
-use Rattle.run.proofs.Run.report.Reads as reads
-use Rattle.run.proofs.Run.report.Lts as lts
-use Rattle.decode.proofs.load.Reads as load-reads
-use Rattle.run.proofs.Run.unmoved.Reads as unmoved-reads
-use Rattle.run.proofs.report_rows.Reads as report-rows-reads
+
+-- where the chart is known to be accepted, it was loaded before
+abbrev loading : tie.After-chart → tie.After-load
+loading c = c .before .before .before .before .before .before .before
+
+accepted : (c : tie.After-chart) → examined (now (loading c .before .before .before .before .before .before .before .before .args .text)) ≡ Accepted (c .chart .given .0 .0)
+accepted c = sym (loading c .load .ensures .answer) ∙ c .chart .given .1
 
 slice-aggregate-load : tie.Need-slice-aggregate-load
 slice-aggregate-load c = search needs
@@ -53,26 +56,16 @@ slice-aggregate-report-rows-4 c = search needs
 
 report-rows-requires : tie.Need-report-rows-requires
 report-rows-requires c κs =
-    let load = c .before .before .before .before .before .before .before .before .before .before .before .before .load in
-    let chart = c .before .before .before .before .before .chart .given in
-    let e = sym (load .ensures .answer) ∙ chart .1 in
-    let loaded = load .ensures .taken _ (chart .1) in
-    let few = few-positions _ _ e _ _ _ _ _ _ _ _ _ _ loaded in (
-      loaded-within _ _ e _ _ _ _ _ _ _ _ _ _ loaded (omega (arith, load .kept)) (omega (arith, load .kept)) (omega (arith, load .kept)),
-      few,
-      omega (arith, few, load .kept),
-    )
+    let known = c .before .before .before .before .before in
+    (_, (_, loading known .load .ensures .taken _ (known .chart .given .1) .rows))
 
 returns : tie.Need-returns
 returns c = c .unmoved .ensures ∙ report-refused _ _ _ _ _ (sym (c .before .before .before .before .before .before .before .before .before .load .ensures .answer) ∙ c .before .before .r .given .1)
 
 returns-2 : tie.Need-returns-2
 returns-2 c =
-    let load = c .before .before .before .before .before .before .before .before .before .before .before .before .before .load in
-    let chart = c .before .before .before .before .before .before .chart .given in
-    let e = sym (load .ensures .answer) ∙ chart .1 in
-    let loaded = load .ensures .taken _ (chart .1) in
-    report-taken _ _ _ _ _ e (loaded-decoded _ _ e _ _ _ _ _ _ _ _ _ _ loaded) (c .report-rows .ensures)
+    let known = c .before .before .before .before .before .before in
+    report-taken _ _ _ _ _ (accepted known) (loading known .load .ensures .taken _ (known .chart .given .1) .rows) (c .report-rows .ensures)
 
 pub report-spec : {M : Type 1} → statement M
 report-spec =

@@ -3,8 +3,6 @@ use mathlib.Core.Path.{refl}
 use Rattle.run.specs.Running.{unmoved}
 use Rattle.run.proofs.Run.unmoved.Statement.{statement}
 use Rattle.run.proofs.Run.unmoved.Tie as tie
-use Rattle.run.proofs.Run.unmoved.Reads as reads
-use Rattle.run.proofs.Run.unmoved.Lts as lts
 
 returns : tie.Need-returns
 unfolding unmoved

@@ -1,0 +1,106 @@
+// Asks the jobs about charts, plates, steps and rows of choices, good and bad, and writes what each answers and what the case is.
+// `stdin` has the cases, `stdout` what document 01 says of each. The first letter of a case's name is its job: `E` examines a chart, `C`
+// is Checking, `R` Reading, `W` the program's answer, `S` a step of a run and `D` Comparing.
+ghost use Prim.Native.Nat.{_≤_};
+ghost use lib.ListN.{length};
+use cases::Case;
+use cases::case_at;
+use libc::STDIN_FILENO;
+use run::Run;
+
+mod charts;
+mod plates;
+mod runs;
+mod writer;
+
+// Where the next case begins, and the run that it goes on with.
+struct Next {
+    at: usize,
+    run: Run,
+}
+
+fn main() {
+    let mut input = io::large_buffer();
+    let got = io::read_full(STDIN_FILENO, &mut input);
+    cases(&input[..got]);
+    charts::longest();
+    charts::rows();
+    plates::rows();
+}
+
+// The cases of the input, of which there are fewer than 400.
+fn cases(input: &[u8]) {
+    let mut at: usize = 0;
+    let mut run = Run::restored(0, 0, 0);
+    let mut k: usize = 0;
+    while k < 400 {
+        let next = show_case(input, case_at(input, at), run);
+        at = next.at;
+        run = next.run;
+        k += 1;
+    }
+}
+
+// Shows a case. Past the input's end it shows nothing.
+fn show_case(input: &[u8], c: Case, run: Run) -> Next
+    requires { ⌜ (c .name ≤ c .first) × (c .first ≤ c .second) × (c .second ≤ c .third) × (c .third ≤ c .end) × (c .end ≤ length (now input)) ⌝ }
+{
+    let name = c.name;
+    let first = c.first;
+    let second = c.second;
+    let third = c.third;
+    let end = c.end;
+    if input.len() <= end {
+        return Next {
+            at: input.len(),
+            run,
+        };
+    }
+    let after = show(
+        &input[name..first],
+        &input[first..second],
+        &input[second..third],
+        &input[third..end],
+        run,
+    );
+    Next {
+        at: end + 1,
+        run: after,
+    }
+}
+
+// The answer and the name; a plate stands under its name. Answers the run after the case.
+fn show(name: &[u8], chart: &[u8], plate: &[u8], words: &[u8], run: Run) -> Run {
+    if name.len() == 0 {
+        return run;
+    }
+    let job = name[0];
+    if job == b'W' {
+        writer::name(&name[1..]);
+        charts::respond(chart);
+        return run;
+    }
+    let after = answer(job, chart, plate, words, run);
+    io::write_all(1, b"  ");
+    writer::name(&name[1..]);
+    after
+}
+
+fn answer(job: u8, chart: &[u8], plate: &[u8], words: &[u8], run: Run) -> Run {
+    if job == b'S' {
+        return runs::step(chart, plate, words, run);
+    }
+    if job == b'E' {
+        charts::examine(chart);
+    }
+    if job == b'C' {
+        plates::check(chart, plate);
+    }
+    if job == b'R' {
+        plates::read(chart);
+    }
+    if job == b'D' {
+        plates::compare(chart, plate, words);
+    }
+    run
+}

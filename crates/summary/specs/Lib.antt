@@ -1,2 +1,0 @@
-pub mod Summarize
-pub mod SummarizeLaws

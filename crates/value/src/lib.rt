@@ -1,2 +1,0 @@
-// The job Valuing, over the solver.
-pub mod valuing;
