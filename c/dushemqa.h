@@ -13,7 +13,7 @@
  * and DUSHEMQA_NONE stands for "ever" and for "-".
  *
  * On a refusal everything that was lent is as it was, a run comes back as it was handed in, and all other numbers of the
- * answer are 0.
+ * answer are 0, save the position where a start began no run.
  */
 #ifndef DUSHEMQA_H
 #define DUSHEMQA_H
@@ -105,9 +105,10 @@ typedef struct {
     uint16_t worth;
 } dushemqa_compared;
 
-/* A run: keep it as it is handed back. One that dushemqa_start did not begin has no promise beyond what dushemqa_report says. */
+/* A run. It begins only by dushemqa_start: keep it as it is handed back. A console that stores a run stores the struct it was
+ * handed. One that dushemqa_start did not begin has no promise beyond what dushemqa_report says. */
 typedef struct {
-    size_t position;  /* where the machine stands */
+    size_t position;  /* where the machine stands; SIZE_MAX where a refused start began no run */
     uint32_t seen;    /* the disturbances seen */
     uint16_t initial; /* the value at the start, DUSHEMQA_NONE for "ever" */
 } dushemqa_run;
@@ -186,7 +187,8 @@ dushemqa_compared dushemqa_compare(const uint8_t *chart, size_t chart_length,
  *   chart, chart_length  the chart's bytes
  *   plate, plate_length  the plate's bytes
  *   position             where the machine stands
- * Refusals: 1 to 9; 11; 13; 14 with the first fault. The run of a refused start is all 0, and none to go on with. */
+ * Refusals: 1 to 9; 11; 13; 14 with the first fault. A refused start begins no run: what it hands back has the position SIZE_MAX
+ * and is otherwise 0, and a report of it is refused with 13. */
 dushemqa_step dushemqa_start(const uint8_t *chart, size_t chart_length,
                              const uint8_t *plate, size_t plate_length,
                              size_t position);

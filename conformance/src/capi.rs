@@ -60,6 +60,11 @@ pub struct Run {
     pub initial: u16,
 }
 
+impl Run {
+    /// No run: what a refused start hands back. It stands on no chart, so a report of it gives 13.
+    pub const NONE: Run = Run { position: usize::MAX, seen: 0, initial: 0 };
+}
+
 #[repr(C)]
 #[derive(Clone, Copy, Debug, Default, PartialEq, Eq)]
 pub struct Advice {

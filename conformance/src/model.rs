@@ -148,7 +148,7 @@ impl<'a> Subject<'a> {
     pub fn start(&self, plate: &[u8], position: usize) -> Step {
         self.chart()
             .and_then(|chart| run::start(chart, plate, position))
-            .unwrap_or_else(|refusal| Step { refusal, ..Step::default() })
+            .unwrap_or_else(|refusal| Step { refusal, run: Run::NONE, ..Step::default() })
     }
 
     /// Report.

@@ -139,14 +139,16 @@ fn later_refusals(trial: &mut Trial) {
     assert_eq!(subject.read(&[], [5; 3]).0.refusal, number(11));
     assert_eq!(subject.weigh(&[3, NONE, 0, NONE, 4], 5).0, number(12));
     assert_eq!(subject.start(&plate, 5).refusal, number(13));
+    assert_eq!(subject.report(Run::NONE, &plate, 1).refusal, number(13));
     assert_eq!(subject.check(&wrong), Refusal { number: 14, line: 0, position: 0, condition: 4 });
     assert_eq!(subject.report(run, &plate, 4).refusal, number(15));
     assert_eq!(subject.report(long, &plate, 2).refusal, number(16));
-    trial.tally.inputs += 7;
+    trial.tally.inputs += 8;
     trial.write(&subject, 131);
     trial.read(&subject, &[], [5; 3]);
     trial.weigh(&subject, &[3, NONE, 0, NONE, 4], 5);
-    trial.start(&subject, &plate, 5);
+    let none = trial.start(&subject, &plate, 5);
+    trial.report(&subject, none, &plate, 1);
     trial.check(&subject, &wrong);
     trial.report(&subject, run, &plate, 4);
     trial.report(&subject, long, &plate, 2);

@@ -16,7 +16,7 @@ use Rattle.checking.specs.declared.Checked.{Checked}
 use Rattle.checking.specs.declared.Checked.the-variants.{Accepted, Refused as NotAccepted}
 use Rattle.comparing.specs.declared.Compared.{Compared}
 use Rattle.comparing.specs.declared.Compared.the-variants.{Agree, Differ, Refused as NotCompared}
-use Rattle.run.specs.Running.{runOf}
+use Rattle.run.specs.Running.{noRun}
 use Rattle.run.specs.declared.Run.{Run}
 use Rattle.run.specs.declared.Started.{Started}
 use Rattle.run.specs.declared.Started.the-variants.{Begun, Refused as NotStarted}
@@ -58,10 +58,10 @@ comparedNumbers (NotCompared x) = record { refusal = numbersOf x; agree = false;
 abbrev pub refusedStep : Refusal → Run → Step
 refusedStep x run = record { refusal = numbersOf x; run = run; advice = record { choice = 0; value = 0 } }
 
--- a refused start has no run: its numbers are 0
+-- a refused start begins no run
 abbrev pub startedNumbers : Started → Step
 startedNumbers (Begun run advice) = record { refusal = noNumbers; run = run; advice = advice }
-startedNumbers (NotStarted x) = refusedStep x (runOf 0 0 0)
+startedNumbers (NotStarted x) = refusedStep x noRun
 
 abbrev pub answerNumbers : Run → Answer → Step
 answerNumbers run (Taken advice) = record { refusal = noNumbers; run = run; advice = advice }

@@ -156,7 +156,7 @@ pub fn started_numbers(answer: Started) -> Step
             run,
             advice,
         },
-        Started::Refused(r) => refused_step(r, Run::restored(0, 0, 0)),
+        Started::Refused(r) => refused_step(r, Run::none()),
     }
 }
 

@@ -1,7 +1,8 @@
 // The cases of a test program's input. A case has the lengths of its name and of its three texts in four fields, a line feed, the
 // name, the texts and a line feed.
 ghost use Prim.Native.Nat.{_≤_};
-ghost use lib.ListN.{length};
+ghost use mathlib.Core.Path.{_≡_};
+ghost use Rattle.cases.specs.Cases.{after, caseAt, lengthIn, noCase};
 use field::Field;
 use field::read;
 
@@ -16,7 +17,7 @@ pub struct Case {
 
 // The case at `at`, cut at the input's end: where nothing is left, all is at the end.
 pub fn case_at(input: &[u8], at: usize) -> Case
-    ensures { λ r. ⌜ (r .name ≤ r .first) × (r .first ≤ r .second) × (r .second ≤ r .third) × (r .third ≤ r .end) × (r .end ≤ length (now (input .entry))) ⌝ }
+    ensures { λ r. ⌜ r ≡ caseAt (now (input .entry)) at ⌝ }
 {
     let size = input.len();
     if size < 21 {
@@ -26,10 +27,10 @@ pub fn case_at(input: &[u8], at: usize) -> Case
         return ended(size);
     }
     let name = at + 21;
-    let first = after(size, name, number(read(input, at)));
-    let second = after(size, first, number(read(input, at + 5)));
-    let third = after(size, second, number(read(input, at + 10)));
-    let end = after(size, third, number(read(input, at + 15)));
+    let first = after(size, name, length(read(input, at)));
+    let second = after(size, first, length(read(input, at + 5)));
+    let third = after(size, second, length(read(input, at + 10)));
+    let end = after(size, third, length(read(input, at + 15)));
     Case {
         name,
         first,
@@ -40,7 +41,7 @@ pub fn case_at(input: &[u8], at: usize) -> Case
 }
 
 fn ended(size: usize) -> Case
-    ensures { λ r. ⌜ (r .name ≤ r .first) × (r .first ≤ r .second) × (r .second ≤ r .third) × (r .third ≤ r .end) × (r .end ≤ size) ⌝ }
+    ensures { λ r. ⌜ r ≡ noCase size ⌝ }
 {
     Case {
         name: size,
@@ -54,7 +55,7 @@ fn ended(size: usize) -> Case
 // So many bytes further on, but not past the input's end.
 fn after(size: usize, from: usize, count: usize) -> usize
     requires { ⌜ from ≤ size ⌝ }
-    ensures { λ r. ⌜ (from ≤ r) × (r ≤ size) ⌝ }
+    ensures { λ r. ⌜ r ≡ after size from count ⌝ }
 {
     if size - from < count {
         return size;
@@ -62,7 +63,10 @@ fn after(size: usize, from: usize, count: usize) -> usize
     from + count
 }
 
-fn number(f: Field) -> usize {
+// A field's length, 0 where it has no number.
+fn length(f: Field) -> usize
+    ensures { λ r. ⌜ r ≡ lengthIn f ⌝ }
+{
     match f {
         Field::Number(x) => x as usize,
         Field::Bad => 0,

@@ -103,18 +103,19 @@ form-bad text i a b second same inside only w =
     (inside, ⊎-elim (λ no. inl (λ allowed. ⊎-elim (no .0) (no .1) (only allowed))) (λ x. inr (⊎-elim inl (λ y. inr (⊎-elim (λ e. inl (same .1 e)) inr y)) x)) w)
 
 -- on line i nothing before this finding applies, if none of those that can stand there does
-line-free : (text : List ℕ) (i : ℕ) (d : Finding) → (Earlier d (Form i) → BadForm text i → ⊥) →
-    (i ≡ 0 → (Earlier d Limits → OutsideLimits text → ⊥) × (Earlier d Count → WrongCount text → ⊥)) → (Earlier d (Sequence i) → OutOfSequence text i → ⊥) →
-    (Earlier d (Endpoint i) → BadEndpoint text i → ⊥) → (Earlier d (Disturbed i) → BadDisturbance text i → ⊥) → (Earlier d (Order i) → OutOfOrder text i → ⊥) → Free text i d
-line-free text i d form first sequence endpoint disturbed order Length a e l w = omega arith
-line-free text i d form first sequence endpoint disturbed order (Form line) a e l w = subst (λ (k : ℕ). Earlier d (Form k) → BadForm text k → ⊥) (sym e) form l w
-line-free text i d form first sequence endpoint disturbed order Limits a e l w = first (sym e) .0 l w
-line-free text i d form first sequence endpoint disturbed order Count a e l w = first (sym e) .1 l w
-line-free text i d form first sequence endpoint disturbed order (Sequence line) a e l w = subst (λ (k : ℕ). Earlier d (Sequence k) → OutOfSequence text k → ⊥) (sym e) sequence l w
-line-free text i d form first sequence endpoint disturbed order (Endpoint line) a e l w = subst (λ (k : ℕ). Earlier d (Endpoint k) → BadEndpoint text k → ⊥) (sym e) endpoint l w
-line-free text i d form first sequence endpoint disturbed order (Disturbed line) a e l w = subst (λ (k : ℕ). Earlier d (Disturbed k) → BadDisturbance text k → ⊥) (sym e) disturbed l w
-line-free text i d form first sequence endpoint disturbed order (Order line) a e l w = subst (λ (k : ℕ). Earlier d (Order k) → OutOfOrder text k → ⊥) (sym e) order l w
-line-free text i d form first sequence endpoint disturbed order (NoMeant line) a e l w = omega arith
+module _ (text : List ℕ) (i : ℕ) (d : Finding) (form : Earlier d (Form i) → BadForm text i → ⊥)
+    (first : i ≡ 0 → (Earlier d Limits → OutsideLimits text → ⊥) × (Earlier d Count → WrongCount text → ⊥)) (sequence : Earlier d (Sequence i) → OutOfSequence text i → ⊥)
+    (endpoint : Earlier d (Endpoint i) → BadEndpoint text i → ⊥) (disturbed : Earlier d (Disturbed i) → BadDisturbance text i → ⊥) (order : Earlier d (Order i) → OutOfOrder text i → ⊥) where
+  line-free : Free text i d
+  line-free Length a e l w = omega arith
+  line-free (Form line) a e l w = subst (λ (k : ℕ). Earlier d (Form k) → BadForm text k → ⊥) (sym e) form l w
+  line-free Limits a e l w = first (sym e) .0 l w
+  line-free Count a e l w = first (sym e) .1 l w
+  line-free (Sequence line) a e l w = subst (λ (k : ℕ). Earlier d (Sequence k) → OutOfSequence text k → ⊥) (sym e) sequence l w
+  line-free (Endpoint line) a e l w = subst (λ (k : ℕ). Earlier d (Endpoint k) → BadEndpoint text k → ⊥) (sym e) endpoint l w
+  line-free (Disturbed line) a e l w = subst (λ (k : ℕ). Earlier d (Disturbed k) → BadDisturbance text k → ⊥) (sym e) disturbed l w
+  line-free (Order line) a e l w = subst (λ (k : ℕ). Earlier d (Order k) → OutOfOrder text k → ⊥) (sym e) order l w
+  line-free (NoMeant line) a e l w = omega arith
 
 -- so on a position line, on a move line and on the header
 position-free : (text : List ℕ) (i : ℕ) (d : Finding) → PositionLine text i → (Earlier d (Form i) → BadForm text i → ⊥) → (Earlier d (Sequence i) → OutOfSequence text i → ⊥) → Free text i d

@@ -5,7 +5,7 @@ use mathlib.Core.Path.{_≡_, refl, sym, ap, _∙_}
 use mathlib.Core.Logic.{_⊎_, inl, inr}
 use mathlib.Core.List.{List}
 use Rattle.rows.specs.Rows.{RowsOf}
-use Rattle.rows.specs.Numbers.{numberOf, rowValue}
+use Rattle.rows.specs.Numbers.{numberOf, rowValue, Agree}
 use Rattle.game.specs.Value.{Value, fin, ever}
 use Rattle.game.specs.Arena.{Arena, size}
 use Rattle.game.specs.Play.{targetOf}
@@ -24,7 +24,7 @@ use Rattle.plate.specs.Read.{RowsRead, headerIn, valueIn, choiceIn, stepIn}
 use Rattle.plate.specs.Range.{Below}
 use Rattle.plate.specs.RangeLaws.{below-fits}
 use Rattle.plate.specs.RoundTrip.{read-in-range}
-use Rattle.plate.specs.RowTrip.{Agree, row-column}
+use Rattle.plate.specs.RowTrip.{row-column}
 use Rattle.plate.specs.declared.Form.the-variants.{Good, Bad}
 use Rattle.verdict.specs.Verdict.{verdictOf}
 use Rattle.verdict.specs.Sheet.{Ascending, Formed, sheet}

@@ -4,12 +4,11 @@ use Prim.Native.Nat.{ℕ, _≤_, _<_}
 use native.Mathlib.Omega.{arith}
 use mathlib.Core.Path.{_≡_, refl, sym, ap, subst, _∙_}
 use mathlib.Core.List.{List}
+use Rattle.plate.specs.RangeLaws.{below-when, legal-below}
 use Rattle.rows.specs.Numbers.{valueOf}
 use Rattle.rows.specs.NumberLaws.{Fits, value-of-number}
 use Rattle.game.specs.Value.{Value, fin, ever}
-use Rattle.game.specs.ValueLaws.{fin-injective}
-use Rattle.game.specs.Arena.{Arena, Owner, controller, environment, WellFormed, meantMove, ownerAt, size}
-use Rattle.game.specs.Play.{LegalAs}
+use Rattle.game.specs.Arena.{Arena, WellFormed, ownerAt, size}
 use Rattle.game.specs.FirstLine.{highest}
 use Rattle.game.specs.FirstLineLaws.{pairs-within-size, evers-within-size}
 use Rattle.game.specs.Table.{roundValue, roundStep}
@@ -46,11 +45,6 @@ accepted-plate-is-right text plate e =
     accepted-is-right (arenaOf text) (accepted-chartable text (is .chart) (is .taken) .well-formed) (valueIn plate) (choiceIn plate) (stepIn plate) (headerIn plate)
     (sound-exactly (arenaOf text) (valueIn plate) (choiceIn plate) (stepIn plate) (headerIn plate) .1 (is .certificate, is .header))
 
-below : (bound : ℕ) (x : Value) → ((k : ℕ) → x ≡ fin k → k < bound) → Below bound x
-unfolding Below
-below bound (fin k) h = h k refl
-below bound ever h = tt
-
 -- a right plate's numbers are in the form's range
 module _ (a : Arena) (well : WellFormed a) (few : size a ≤ 512) (value choice : ℕ → Value) (plate : RightPlate a value choice) (h : FirstLine)
     (header : FirstLineIs (size a) value (roundStep a) h) where
@@ -60,18 +54,14 @@ module _ (a : Arena) (well : WellFormed a) (few : size a ≤ 512) (value choice 
   header-highest : Below 512 (valueOf (h .highest))
   header-highest =
       rw (first-line-same {t = roundStep a} rounds-value (λ v l. refl) header .highest-value, value-of-number (highest (roundValue a) (size a)) (fits (highest (roundValue a) (size a)) refl))
-      (below 512 (highest (roundValue a) (size a)) (λ k e. let l = highest-within-size a well k e in omega arith))
+      (below-when 512 (highest (roundValue a) (size a)) (λ k e. let l = highest-within-size a well k e in omega arith))
     where
       fits : (x : Value) → highest (roundValue a) (size a) ≡ x → Fits x
       fits (fin k) e = let l = highest-within-size a well k e in omega arith
       fits ever e = tt
 
   choice-inside : (v : ℕ) → v < size a → Below (size a) (choice v)
-  choice-inside v l = below (size a) (choice v) (λ k e. go (ownerAt a v) (plate .legal v l) k e)
-    where
-      go : (o : Owner) → LegalAs o a v (choice v) → (k : ℕ) → choice v ≡ fin k → k < size a
-      go controller (w, is, meant) k e = let j = fin-injective k w (sym e ∙ is) in let i = well .to-position (meantMove v w) meant in omega arith
-      go environment dash k e = let z : _≡_ {A = ℕ} 0 1 = cc in absurd (omega arith)
+  choice-inside v l = legal-below a well (ownerAt a v) v (choice v) (plate .legal v l)
 
   right-in-range : InRange (size a) h value choice (roundStep a)
   right-in-range =
@@ -79,9 +69,9 @@ module _ (a : Arena) (well : WellFormed a) (few : size a ≤ 512) (value choice 
         rounds = omega (arith, header .rounds, pairs-within-size value (roundStep a) (size a));
         highest = header-highest;
         evers = omega (arith, header .evers, evers-within-size value (size a));
-        value-in = λ v l. below 512 (value v) (λ k e. let i = round-value-within-size a well v k (sym (rounds-value v l) ∙ e) in omega arith);
+        value-in = λ v l. below-when 512 (value v) (λ k e. let i = round-value-within-size a well v k (sym (rounds-value v l) ∙ e) in omega arith);
         choice-in = choice-inside;
-        step-in = λ v l. below 512 (roundStep a v) (λ k e. let i = round-step-within-size a well v k e in omega arith);
+        step-in = λ v l. below-when 512 (roundStep a v) (λ k e. let i = round-step-within-size a well v k e in omega arith);
       }
 
   -- what is read of it is sound

@@ -5,7 +5,7 @@ use Prim.Native.Nat.{ℕ}
 use mathlib.Core.Path.{_≡_}
 use mathlib.Core.Bool.{cond}
 use mathlib.Core.List.{List}
-use lib.ListN.{length, getD}
+use lib.ListN.{length}
 use lib.Dec.{leb, eqb}
 use Rattle.rows.specs.Rows.{RowsOf}
 use Rattle.rows.specs.Numbers.{numberOf, rowValue}
@@ -29,10 +29,7 @@ use Rattle.checking.specs.Checking.{plateVerdict}
 use Rattle.comparing.specs.declared.Compared.{Compared}
 use Rattle.comparing.specs.declared.Compared.the-variants.{Agree, Differ, Refused}
 
--- a row's number at a position, the plate's value there, and the worth there of the controller that makes the choices
-abbrev pub rowNumber : List ℕ → ℕ → ℕ
-rowNumber row v = getD row v 0
-
+-- the plate's value at a position, and the worth there of the controller that makes the choices, as numbers in rows
 abbrev pub valueNumber : List ℕ → ℕ → ℕ
 valueNumber plate v = numberOf (valueIn plate v)
 

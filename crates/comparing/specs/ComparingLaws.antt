@@ -5,11 +5,12 @@ use native.Mathlib.Omega.{arith}
 use mathlib.Core.Path.{_≡_, refl, sym, ap, _∙_}
 use mathlib.Core.Bool.{Bool, true, false}
 use mathlib.Core.List.{List}
+use Rattle.rows.specs.Numbers.{numberAt}
 use Rattle.rows.specs.Rows.{RowsOf}
 use Rattle.game.specs.Arena.{Arena}
 use Rattle.weighing.specs.Weighing.{RowsWeighed}
 use Rattle.checking.specs.Checking.{FormedIs}
-use Rattle.comparing.specs.Comparing.{valueNumber, worthNumber, firstDifference, FormedCompared, rowNumber, comparedVerdict, comparedFormed}
+use Rattle.comparing.specs.Comparing.{valueNumber, worthNumber, firstDifference, FormedCompared, comparedVerdict, comparedFormed}
 use lib.Dec.{eqb}
 use Rattle.search.specs.First.{first-same}
 use Rattle.refusal.specs.declared.Refusal.the-variants.{Choice, Fault}
@@ -42,10 +43,10 @@ module _ {n m : ℕ} {owners marks costs froms tos plate choices worths worths�
     unfolding comparedVerdict
     faulty-compared e = judged e (λ a d. refl)
 
-    pub sound-compared : {s : Compared} → r ≡ Sound → s ≡ firstDifference (valueNumber plate) (rowNumber worths′) n → FormedCompared n m owners marks costs froms tos plate choices s
+    pub sound-compared : {s : Compared} → r ≡ Sound → s ≡ firstDifference (valueNumber plate) (numberAt worths′) n → FormedCompared n m owners marks costs froms tos plate choices s
     unfolding comparedVerdict
     sound-compared e is =
         judged e
         (λ a d.
-        is ∙ difference-same (valueNumber plate) (rowNumber worths′) (valueNumber plate) (worthNumber a choices) n (λ v l. refl) (λ v l. weighing .taken a d lawful .row .row v l)
+        is ∙ difference-same (valueNumber plate) (numberAt worths′) (valueNumber plate) (worthNumber a choices) n (λ v l. refl) (λ v l. weighing .taken a d lawful .row .row v l)
         ∙ rw (d .positions))

@@ -3,10 +3,11 @@
 ghost use mathlib.Core.Path.{_≡_};
 ghost use Prim.Native.Nat.{_≤_};
 ghost use lib.ListN.{length};
+ghost use Rattle.rows.specs.Numbers.{numberAt};
 ghost use Rattle.rows.specs.Rows.{ChartRows};
 ghost use Rattle.plate.specs.Formed.{formOf};
 ghost use Rattle.verdict.specs.Sheet.{Ascending};
-ghost use Rattle.comparing.specs.Comparing.{FormedCompared, firstDifference, rowNumber, valueNumber};
+ghost use Rattle.comparing.specs.Comparing.{FormedCompared, firstDifference, valueNumber};
 ghost use Rattle.comparing.specs.Compared.{ComparedIs};
 use chart::Examination;
 use checking::check_formed;
@@ -96,7 +97,7 @@ fn compare_formed(
 // The first position where the values of a plate of the form differ from the worths.
 fn compare_worths(n: usize, plate: &[u8], worths: &[u16]) -> Compared
     requires { ⌜ (n ≤ 512) × (formOf n (now plate) ≡ Form.Good) × (n ≤ length (now worths)) ⌝ }
-    ensures { λ r. ⌜ r ≡ firstDifference (valueNumber (now (plate .entry))) (rowNumber (now (worths .entry))) n ⌝ }
+    ensures { λ r. ⌜ r ≡ firstDifference (valueNumber (now (plate .entry))) (numberAt (now (worths .entry))) n ⌝ }
 {
     let mut values = [0u16; Chart::POSITIONS];
     let mut choices = [0u16; Chart::POSITIONS];
@@ -108,7 +109,7 @@ fn compare_worths(n: usize, plate: &[u8], worths: &[u16]) -> Compared
 // The first position where two rows differ.
 fn first_difference(n: usize, values: &[u16], worths: &[u16]) -> Compared
     requires { ⌜ (n ≤ length (now values)) × (n ≤ length (now worths)) ⌝ }
-    ensures { λ r. ⌜ r ≡ firstDifference (rowNumber (now (values .entry))) (rowNumber (now (worths .entry))) n ⌝ }
+    ensures { λ r. ⌜ r ≡ firstDifference (numberAt (now (values .entry))) (numberAt (now (worths .entry))) n ⌝ }
 {
     let mut v: usize = 0;
     while v < n {

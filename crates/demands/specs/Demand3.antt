@@ -7,7 +7,7 @@ use Prim.Native.Nat.{ℕ, _≤_, _<_}
 use mathlib.Core.Path.{_≡_, refl}
 use mathlib.Core.Logic.{_↔_}
 use mathlib.Core.List.{List}
-use lib.ListN.{length, getD}
+use lib.ListN.{getD}
 use Rattle.rows.specs.Numbers.{rowValue}
 use Rattle.game.specs.Value.{Value, _≼_}
 use Rattle.game.specs.Arena.{Arena, controller, size, ownerAt}
@@ -63,6 +63,6 @@ pub record Demand3 (text plate values choices given worths : List ℕ) (p : Read
   pub to-the-left : ((τ : Controller (arenaOf text)) → WorthAtMost text worths τ) → RowsAgree text values worths
   -- the same of "every other controller", to the letter
   pub exactly-the-others : RowsAgree text values worths ↔ ((τ : Controller (arenaOf text)) → Other (controllerOf w) τ → WorthAtMost text worths τ)
-  -- the plate's own controller is such a one
-  pub own-taken : (room : ℕ) → size (arenaOf text) ≤ length choices → size (arenaOf text) ≤ room → weighed text choices room ≡ Done
+  -- the plate's own controller is such a one: Weighing takes its choices, given room for the worths, and answers the values
+  pub own-taken : (room : ℕ) → size (arenaOf text) ≤ room → weighed text choices room ≡ Done
   pub own-row : {own : List ℕ} → Weighing text choices own → RowsAgree text values own

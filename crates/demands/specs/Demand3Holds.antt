@@ -9,11 +9,12 @@ use mathlib.Core.List.{List}
 use lib.ListN.{length, getD}
 use lib.Dec.{T}
 use borrow.Author.Tests.{le-leb}
+use Rattle.plate.specs.RangeLaws.{below-fits, legal-below}
 use Rattle.rows.specs.Numbers.{numberOf, valueOf, rowValue}
 use Rattle.rows.specs.NumberLaws.{Fits, value-of-number, number-of-value}
 use Rattle.game.specs.Value.{Value, fin, _≼_, eqV}
 use Rattle.game.specs.ValueLaws.{eqV-sound, ≼antisym}
-use Rattle.game.specs.Arena.{Arena, Owner, controller, environment, WellFormed, size, ownerAt, meantMove}
+use Rattle.game.specs.Arena.{Owner, controller, environment, WellFormed, size, ownerAt}
 use Rattle.game.specs.Play.{still, Controller, Legal, LegalAs, last, targetOf, positional}
 use Rattle.game.specs.Worth.{WorthIs, AtMost, IsValue}
 use Rattle.game.specs.Bounds.{value-is-bounds, worth-is-both-bounds, bounds-in-order}
@@ -35,13 +36,11 @@ use Rattle.checking.specs.Answers.{AcceptedIs}
 use Rattle.checking.specs.AnswersExact.{answer-exactly}
 use Rattle.checking.specs.Plates.{accepted-plate-is-right}
 use Rattle.checking.specs.declared.Checked.the-variants.{Accepted}
+use Rattle.refusal.specs.declared.Refusal.the-variants.{Short}
 use Rattle.demands.specs.SanctionedLaws.{sanctioned-is-accepted}
+use Rattle.demands.specs.Demand1.{Clear}
+use Rattle.demands.specs.Demand1Holds.{demand-1}
 use Rattle.demands.specs.Demand3.{ReadPlate, Weighing, controllerOf, RowsAgree, NoneBetter, WorthAtMost, Other, Demand3}
-
--- a legal choice is a position or the dash
-legal-fits : (a : Arena) → WellFormed a → size a ≤ 512 → (o : Owner) (v : ℕ) (x : Value) → LegalAs o a v x → Fits x
-legal-fits a wf few controller v x h = subst Fits (sym (h .1)) (let m = wf .to-position (meantMove v (h .0)) (h .2) in omega arith)
-legal-fits a wf few environment v x h = subst Fits (sym h) tt
 
 -- two rows agree below n, or differ somewhere
 agree-or-differ : (f g : ℕ → Value) (n : ℕ) → ((v : ℕ) → v < n → f v ≡ g v) ⊎ ((v : ℕ) × (v < n) × (f v ≡ g v → ⊥))
@@ -82,7 +81,7 @@ module _ {text plate values choices : List ℕ} (p : ReadPlate text plate values
   choices-are : (v : ℕ) → v < size (arenaOf text) → rowValue choices v ≡ choiceIn plate v
   choices-are v l =
       ap valueOf (p .read .taken (p .header) refl .choice .row v l)
-      ∙ value-of-number (choiceIn plate v) (legal-fits (arenaOf text) well few (ownerAt (arenaOf text) v) v (choiceIn plate v) (right .legal v l))
+      ∙ value-of-number (choiceIn plate v) (below-fits (size (arenaOf text)) (choiceIn plate v) (omega (arith, few)) (legal-below (arenaOf text) well (ownerAt (arenaOf text) v) v (choiceIn plate v) (right .legal v l)))
 
   is-value : (v : ℕ) → v < size (arenaOf text) → IsValue (arenaOf text) v (rowValue values v)
   is-value v l = subst (IsValue (arenaOf text) v) (sym (values-are v l)) (right .right v l)
@@ -168,11 +167,20 @@ module _ {text plate values choices : List ℕ} (p : ReadPlate text plate values
   choices-legal : Legal (arenaOf text) (rowValue choices)
   choices-legal v l = subst (λ (x : Value). LegalAs (ownerAt (arenaOf text) v) (arenaOf text) v x) (sym (choices-are v l)) (right .legal v l)
 
-  pub own-choices-are-taken : (room : ℕ) → size (arenaOf text) ≤ length choices → size (arenaOf text) ≤ room → weighed text choices room ≡ Done
+  -- Reading's answer is no refusal, so no lent row is too short, and the row of choices kept its length
+  choices-suffice : size (arenaOf text) ≤ length choices
+  unfolding Clear
+  choices-suffice =
+      let free = demand-1 .reading (p .read) .taken (λ x q. let z : _≡_ {A = ℕ} 0 1 = cc in omega arith) in
+      let same = p .read .taken (p .header) refl .choice .same-length in
+      let enough : length (p .choices₀) < size (arenaOf text) → ⊥ = λ l. free .1 .0 Short (refl, inr (inl l)) in
+      omega (arith, same, enough)
+
+  pub own-choices-are-taken : (room : ℕ) → size (arenaOf text) ≤ room → weighed text choices room ≡ Done
   unfolding weighed weighedBy
-  own-choices-are-taken room enough space =
+  own-choices-are-taken room space =
       let n = accepted-size text (accepted .chart) (accepted .taken) in
-      rw (accepted .taken, ← n, le-leb (size (arenaOf text)) (length choices) enough, le-leb (size (arenaOf text)) room space, legal-row-complete (arenaOf text) (rowValue choices) choices-legal)
+      rw (accepted .taken, ← n, le-leb (size (arenaOf text)) (length choices) choices-suffice, le-leb (size (arenaOf text)) room space, legal-row-complete (arenaOf text) (rowValue choices) choices-legal)
 
   pub own-worths-are-the-values : {worths : List ℕ} → Weighing text choices worths → RowsAgree text values worths
   own-worths-are-the-values {worths} w v l =

@@ -4,17 +4,18 @@ use mathlib.Core.Path.{_≡_}
 use mathlib.Core.List.{List, [], _∷_, _++_}
 use lib.ListN.{length, getD}
 use Rattle.game.specs.Value.{Value, fin, ever}
-use Rattle.game.specs.Arena.{Arena, size}
+use Rattle.game.specs.Arena.{size}
 use Rattle.game.specs.Worth.{IsValue}
-use Rattle.game.specs.Rounds.{Round, NeverPlaced}
 use Rattle.game.specs.Choice.{IsChoice}
 use Rattle.game.specs.FirstLine.{pairCount, highest, everCount}
 use Rattle.chart.specs.Meaning.{arenaOf, chartLine}
 use Rattle.chart.specs.Examined.{examined}
+use Rattle.chart.specs.Refusals.{Applies, First}
 use Rattle.refusal.specs.Numbers.{misdrawnNumber, misdrawnLine}
 use Rattle.rows.specs.declared.Chart.{Chart}
 use Rattle.refusal.specs.declared.Misdrawn.{Misdrawn}
 use Rattle.chart.specs.declared.Examination.the-variants.{Accepted, Refused}
+use Rattle.valuing.specs.ValuedMeans.{PairIs}
 
 -- what is expected: a refusal, or the plate's columns and the numbers of its first line
 pub data Expected : Type 0 where
@@ -29,16 +30,11 @@ pub record Edge : Type 0 where
 abbrev pub entry : List Value → ℕ → Value
 entry column v = getD column v ever
 
--- the pair of value and step at v, as the rounds give it
-abbrev pub PairIs : Arena → ℕ → Value → Value → Type 0
-PairIs a v (fin k) (fin s) = Round a k s v
-PairIs a v (fin k) ever = ⊥
-PairIs a v ever (fin s) = ⊥
-PairIs a v ever ever = NeverPlaced a v
-
--- a plate is right: at every position the value by plays and controllers, the choice and the pair; and the first line's numbers
+-- no refusal applies to the chart and it is taken, and its plate is right: at every position the value by plays and controllers, the
+-- choice and the pair; and the first line's numbers
 pub record PlateHolds (text : List ℕ) (values choices steps : List Value) (rounds : ℕ) (top : Value) (evers : ℕ) : Type 0 where
   pub chart : Chart
+  pub drawn : (r : Misdrawn) → Applies text r → ⊥
   pub taken : examined text ≡ Accepted chart
   pub sized : length values ≡ size (arenaOf text)
   pub value : (v : ℕ) → v < size (arenaOf text) → IsValue (arenaOf text) v (entry values v)
@@ -48,9 +44,10 @@ pub record PlateHolds (text : List ℕ) (values choices steps : List Value) (rou
   pub highest-value : top ≡ highest (entry values) (size (arenaOf text))
   pub evers-counted : evers ≡ everCount (entry values) (size (arenaOf text))
 
--- a refusal with this number and line is answered
+-- a refusal with this number and line applies to the chart and nothing before it in the table's order does, and it is answered
 pub record RefusalHolds (text : List ℕ) (number line : ℕ) : Type 0 where
   pub refusal : Misdrawn
+  pub first : First text refusal
   pub turned : examined text ≡ Refused refusal
   pub number-is : misdrawnNumber refusal ≡ number
   pub line-is : misdrawnLine refusal ≡ line
@@ -75,9 +72,50 @@ M v w = chartLine 77 v w
 abbrev D : ℕ → ℕ → List ℕ
 D v w = chartLine 68 v w
 
--- chart a
+-- chart a, byte for byte as document 01 prints it
 unfoldable pub documentChart : List ℕ
-documentChart = H 5 8 ++ O 0 0 ++ L 1 0 ++ O 2 0 ++ L 3 1 ++ O 4 0 ++ M 0 1 ++ D 0 2 ++ M 1 0 ++ M 2 0 ++ M 2 2 ++ D 2 3 ++ M 3 3 ++ M 4 4
+documentChart =
+    -- H    5    8
+    (72 ∷ 32 ∷ 32 ∷ 32 ∷ 32 ∷ 53 ∷ 32 ∷ 32 ∷ 32 ∷ 32 ∷ 56 ∷ 10 ∷ [])
+    ++
+    -- O    0    0
+    (79 ∷ 32 ∷ 32 ∷ 32 ∷ 32 ∷ 48 ∷ 32 ∷ 32 ∷ 32 ∷ 32 ∷ 48 ∷ 10 ∷ [])
+    ++
+    -- L    1    0
+    (76 ∷ 32 ∷ 32 ∷ 32 ∷ 32 ∷ 49 ∷ 32 ∷ 32 ∷ 32 ∷ 32 ∷ 48 ∷ 10 ∷ [])
+    ++
+    -- O    2    0
+    (79 ∷ 32 ∷ 32 ∷ 32 ∷ 32 ∷ 50 ∷ 32 ∷ 32 ∷ 32 ∷ 32 ∷ 48 ∷ 10 ∷ [])
+    ++
+    -- L    3    1
+    (76 ∷ 32 ∷ 32 ∷ 32 ∷ 32 ∷ 51 ∷ 32 ∷ 32 ∷ 32 ∷ 32 ∷ 49 ∷ 10 ∷ [])
+    ++
+    -- O    4    0
+    (79 ∷ 32 ∷ 32 ∷ 32 ∷ 32 ∷ 52 ∷ 32 ∷ 32 ∷ 32 ∷ 32 ∷ 48 ∷ 10 ∷ [])
+    ++
+    -- M    0    1
+    (77 ∷ 32 ∷ 32 ∷ 32 ∷ 32 ∷ 48 ∷ 32 ∷ 32 ∷ 32 ∷ 32 ∷ 49 ∷ 10 ∷ [])
+    ++
+    -- D    0    2
+    (68 ∷ 32 ∷ 32 ∷ 32 ∷ 32 ∷ 48 ∷ 32 ∷ 32 ∷ 32 ∷ 32 ∷ 50 ∷ 10 ∷ [])
+    ++
+    -- M    1    0
+    (77 ∷ 32 ∷ 32 ∷ 32 ∷ 32 ∷ 49 ∷ 32 ∷ 32 ∷ 32 ∷ 32 ∷ 48 ∷ 10 ∷ [])
+    ++
+    -- M    2    0
+    (77 ∷ 32 ∷ 32 ∷ 32 ∷ 32 ∷ 50 ∷ 32 ∷ 32 ∷ 32 ∷ 32 ∷ 48 ∷ 10 ∷ [])
+    ++
+    -- M    2    2
+    (77 ∷ 32 ∷ 32 ∷ 32 ∷ 32 ∷ 50 ∷ 32 ∷ 32 ∷ 32 ∷ 32 ∷ 50 ∷ 10 ∷ [])
+    ++
+    -- D    2    3
+    (68 ∷ 32 ∷ 32 ∷ 32 ∷ 32 ∷ 50 ∷ 32 ∷ 32 ∷ 32 ∷ 32 ∷ 51 ∷ 10 ∷ [])
+    ++
+    -- M    3    3
+    (77 ∷ 32 ∷ 32 ∷ 32 ∷ 32 ∷ 51 ∷ 32 ∷ 32 ∷ 32 ∷ 32 ∷ 51 ∷ 10 ∷ [])
+    ++
+    -- M    4    4
+    (77 ∷ 32 ∷ 32 ∷ 32 ∷ 32 ∷ 52 ∷ 32 ∷ 32 ∷ 32 ∷ 32 ∷ 52 ∷ 10 ∷ [])
 
 -- a to l, in document 01's order and words
 unfoldable pub edgeCharts : List Edge

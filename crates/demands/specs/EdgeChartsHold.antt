@@ -13,32 +13,33 @@ use Rattle.rows.specs.FirstLine.{firstLineOf}
 use Rattle.rows.specs.Numbers.{numberOf, valueOf}
 use Rattle.search.specs.Below.{someBelow, countBelow}
 use Rattle.search.specs.First.{firstFrom}
-use Rattle.game.specs.Value.{Value, fin, ever, ltV, eqV}
-use Rattle.game.specs.ValueLaws.{eqV-sound, fin-is-not-ever}
+use Rattle.game.specs.Value.{Value, ltV, eqV}
+use Rattle.game.specs.ValueLaws.{eqV-sound}
 use Rattle.game.specs.MoveTests.{and-left, and-right}
-use Rattle.game.specs.Arena.{Arena, WellFormed, size}
+use Rattle.game.specs.Arena.{Arena, size}
 use Rattle.game.specs.Worth.{IsValue}
-use Rattle.game.specs.Table.{Placement, unplaced, placed, placementAt, someMove, everyMove, meantFrom, disturbanceFrom, isPlaced, hasValue, readyAs, ready, begins, place, tableAfter, tableBefore, table, placedValue, placedStep, roundValue, roundStep}
+use Rattle.game.specs.Table.{someMove, everyMove, meantFrom, disturbanceFrom, isPlaced, hasValue, readyAs, ready, begins, place, tableAfter, tableBefore, table, placedValue, placedStep, roundValue, roundStep}
 use Rattle.game.specs.Best.{better, bestIn, bestAs, bestAt}
 use Rattle.game.specs.BestLaws.{best-is-the-choice}
 use Rattle.game.specs.Choice.{IsChoice}
 use Rattle.game.specs.RoundValues.{rounds-give-the-values}
-use Rattle.game.specs.TableIsRounds.{rows-are-the-rounds, rows-have-the-never-placed}
 use Rattle.game.specs.FirstLine.{firstOfPair, pairCount, higher, highest, everCount}
 use Rattle.field.specs.Text.{digitAfter, stepped, scan, ended, fieldOf, five, fieldAt, placeByte, numberText}
 use Rattle.chart.specs.Text.{letterAt, firstAt, secondAt, endAt, markAt, fieldNumber, isNumber, positionsOf, movesOf, fromAt, toAt}
 use Rattle.chart.specs.Meaning.{ownerOf, costOf, positionOn, moveOn, arenaOf}
 use Rattle.chart.specs.Examined.{numbered, formed, headerFormed, positionFormed, moveFormed, limitsOf, headerOf, judgedPosition, positionFinding, above, rises, ordered, judgedMove, moveFinding, lineFinding, orElse, meantLine, meantIn, missingAt, unflaggedAt, answer, afterHeader, linesAfter, examined}
 use Rattle.chart.specs.Accepted.{accepted-chartable}
+use Rattle.chart.specs.Exact.{refused-exactly, accepted-exactly}
 use Rattle.refusal.specs.Numbers.{misdrawnNumber, misdrawnLine}
 use Rattle.rows.specs.declared.Chart.{Chart}
 use Rattle.chart.specs.declared.Examination.{Examination}
 use Rattle.chart.specs.declared.Examination.the-variants.{Accepted, Refused}
-use Rattle.demands.specs.EdgeCharts.{Expected, refusal, plate, Edge, entry, PairIs, PlateHolds, RefusalHolds, Holds, documentChart, documentPlate, edgeCharts}
+use Rattle.demands.specs.EdgeCharts.{Expected, refusal, plate, Edge, entry, PlateHolds, RefusalHolds, Holds, documentChart, documentPlate, edgeCharts}
 use Rattle.line.specs.Text.{dashText, everText, entryText, fieldsText, lineText}
 use Rattle.line.specs.Joined.{joined}
 use Rattle.plate.specs.Text.{valueEntry, dashEntry, headerLine, positionLine, positionLines, plateText}
 use Rattle.writing.specs.Writing.{plateOf}
+use Rattle.valuing.specs.ValuedMeansHold.{pair-is}
 
 -- two rows agree below n
 unfoldable pub agree : (ℕ → Value) → (ℕ → Value) → ℕ → Bool
@@ -90,29 +91,12 @@ refusal-passes text number line h = go (examined text) refl h
     go (Refused r) e h =
         record {
           refusal = r;
+          first = refused-exactly text r .0 e;
           turned = e;
           number-is = eqb→eq (misdrawnNumber r) number (and-left (eqb (misdrawnNumber r) number) (eqb (misdrawnLine r) line) h);
           line-is = eqb→eq (misdrawnLine r) line (and-right (eqb (misdrawnNumber r) number) (eqb (misdrawnLine r) line) h);
         }
     go (Accepted chart) e h = absurd h
-
--- a value is finite exactly where the step is
-both-finite : (p : Placement) (k : ℕ) → placedValue p ≡ fin k → placedStep p ≡ ever → ⊥
-unfolding placedValue placedStep
-both-finite unplaced k e f = fin-is-not-ever k (sym e)
-both-finite (placed j s) k e f = fin-is-not-ever s f
-
-both-ever : (p : Placement) (s : ℕ) → placedValue p ≡ ever → placedStep p ≡ fin s → ⊥
-unfolding placedValue placedStep
-both-ever unplaced s e f = fin-is-not-ever s (sym f)
-both-ever (placed j t) s e f = fin-is-not-ever j e
-
-pair-is : (a : Arena) → WellFormed a → (v : ℕ) (x s : Value) → x ≡ roundValue a v → s ≡ roundStep a v → PairIs a v x s
-unfolding roundValue roundStep
-pair-is a wf v (fin k) (fin s) e f = rows-are-the-rounds a wf k s v .1 (sym e, sym f)
-pair-is a wf v (fin k) ever e f = both-finite (placementAt (table a) v) k (sym e) (sym f)
-pair-is a wf v ever (fin s) e f = both-ever (placementAt (table a) v) s (sym e) (sym f)
-pair-is a wf v ever ever e f = rows-have-the-never-placed a wf v .1 (sym e, sym f)
 
 accepted-chart : (text : List ℕ) → T (isAccepted (examined text)) → (chart : Chart) × (examined text ≡ Accepted chart)
 unfolding isAccepted
@@ -144,6 +128,7 @@ plate-passes text values choices steps rounds top evers taken rows counts =
     let value-at : (v : ℕ) → v < n → entry values v ≡ roundValue a v = λ v l. agree-at (entry values) (roundValue a) n v (and-left same-values (same-choices && same-steps) rows) l in
     record {
       chart = t .0;
+      drawn = accepted-exactly text (t .0) .0 (t .1) .0;
       taken = t .1;
       sized = eqb→eq (length values) n (and-left sized (pairs && (top-right && ever-right)) counts);
       value = λ v l. subst (IsValue a v) (sym (value-at v l)) (rounds-give-the-values a wf v l);

@@ -1,11 +1,12 @@
 -- A plate that Writing made, read: it is of the form and Reading takes it, and the first line's numbers and the rows are what Valuing
--- gives.
+-- gives. So a plate, written and read back, is the same plate.
 use Prim.Native.Nat.{ℕ}
 use mathlib.Core.Path.{_≡_, refl, sym, ap, _∙_, subst}
 use mathlib.Core.Bool.{true, _&&_}
 use mathlib.Core.List.{List}
-use lib.ListN.{length}
+use lib.ListN.{length, take}
 use lib.Dec.{leb}
+use borrow.Author.Tests.{le-leb}
 use Rattle.rows.specs.Numbers.{numberOf}
 use Rattle.rows.specs.Filling.{filled-same}
 use Rattle.game.specs.Arena.{size}
@@ -23,12 +24,15 @@ use Rattle.plate.specs.Formed.{formOf}
 use Rattle.plate.specs.Exact.{form-exact}
 use Rattle.plate.specs.RoundTrip.{ReadsAs, set-out-is-of-form, reading-undoes-writing}
 use Rattle.reading.specs.Reading.{answerTo, readBy, reading, ReadingIs}
-use Rattle.reading.specs.ReadingTrip.{reading-took}
+use Rattle.reading.specs.ReadingTrip.{reading-took, reading-set-out}
 use Rattle.plate.specs.declared.Form.the-variants.{Good}
 use Rattle.reading.specs.declared.Reading.{Reading}
 use Rattle.reading.specs.declared.Reading.the-variants.{Rows}
-use Rattle.writing.specs.Writing.{roundsFirstLine, plateOf}
+use Rattle.writing.specs.Writing.{roundsFirstLine, plateOf, WrittenIs}
+use Rattle.writing.specs.declared.Written.the-variants.{Length}
 use Rattle.writing.specs.Ranges.{arena-in-range}
+use Rattle.demands.specs.SanctionedLaws.{writing-took, written-plate}
+use Rattle.demands.specs.Demand2.{SamePlate}
 
 module _ (text : List ℕ) (chart : Chart) (accepted : examined text ≡ Accepted chart) where
   -- the plate that Writing makes is of the form, and reads as the rounds and choices
@@ -68,3 +72,21 @@ reading-gives-valuing text values values′ choices choices′ steps steps′ r 
         step = filled-same _ _ _ _ _ _ refl (λ v l. ap numberOf (back .step-at v l)) (rows .step);
       },
     )
+
+-- "A plate, written and read back, is the same plate"
+pub written-and-read-back : {text out out′ : List ℕ} {k : ℕ} → WrittenIs text out out′ (Length k) → SamePlate text (take k out′)
+written-and-read-back {text} {out} {out′} {k} w =
+    let t = writing-took text (length out) k (w .answer) in
+    subst (SamePlate text) (sym (written-plate w)) (same (t .chart) (t .taken))
+  where
+    same : (chart : Chart) → examined text ≡ Accepted chart → SamePlate text (plateOf (arenaOf text))
+    same chart accepted =
+        record {
+          taken = λ {values} {values′} {choices} {choices′} {steps} is enough-values enough-choices enough-steps.
+              let n = accepted-size text chart accepted in
+              let room : (leb (chart .positions) (length values) && (leb (chart .positions) (length choices) && leb (chart .positions) (length steps))) ≡ true =
+              rw (← n, le-leb (size (arenaOf text)) (length values) enough-values, le-leb (size (arenaOf text)) (length choices) enough-choices, le-leb (size (arenaOf text)) (length steps) enough-steps) in
+              (roundsFirstLine (arenaOf text), is .answer ∙ written-is-taken text chart accepted (length values) (length choices) (length steps) room);
+          same-bytes = λ is. reading-set-out text (plateOf (arenaOf text)) _ _ _ _ _ _ _ _ is refl;
+          same-numbers = λ is. reading-gives-valuing text _ _ _ _ _ _ _ _ is refl;
+        }

@@ -26,12 +26,12 @@ use Rattle.checking.specs.declared.Checked.the-variants.{Accepted}
 use Rattle.demands.specs.Sanctioned.{Sanctioned, byWriting, byChecking}
 
 -- where Writing answered a length, it took the chart, and the length is the plate's
-record Took (text : List ℕ) (k : ℕ) : Type 0 where
-  chart : Chart
-  taken : examined text ≡ Taken chart
-  length-is : k ≡ (chart .positions + 1) * 22
+pub record Took (text : List ℕ) (k : ℕ) : Type 0 where
+  pub chart : Chart
+  pub taken : examined text ≡ Taken chart
+  pub length-is : k ≡ (chart .positions + 1) * 22
 
-writing-took : (text : List ℕ) (room k : ℕ) → Length k ≡ written text room → Took text k
+pub writing-took : (text : List ℕ) (room k : ℕ) → Length k ≡ written text room → Took text k
 unfolding written writtenBy
 writing-took text room k e = go (examined text) refl e
   where
@@ -56,10 +56,13 @@ first-line-is-counted : (a : Arena) → FirstLineIs (size a) (roundValue a) (rou
 unfolding firstLineOf
 first-line-is-counted a = record { rounds = refl; highest-value = refl; evers = refl }
 
-pub sanctioned-is-accepted : (text plate : List ℕ) → Sanctioned text plate → checked text plate ≡ Accepted
+-- Checking accepts the plate that Writing makes
+pub written-is-accepted : (text : List ℕ) (chart : Chart) → examined text ≡ Taken chart → checked text (plateOf (arenaOf text)) ≡ Accepted
 unfolding plateOf
+written-is-accepted text chart taken = rounds-plate-is-accepted text chart taken (roundsFirstLine (arenaOf text)) (first-line-is-counted (arenaOf text))
+
+pub sanctioned-is-accepted : (text plate : List ℕ) → Sanctioned text plate → checked text plate ≡ Accepted
 sanctioned-is-accepted text plate (byChecking e) = e
 sanctioned-is-accepted text plate (byWriting {out = out} {k = k} w e) =
     let t = writing-took text (length out) k (w .answer) in
-    subst (λ (p : List ℕ). checked text p ≡ Accepted) (sym (e ∙ written-plate w))
-    (rounds-plate-is-accepted text (t .chart) (t .taken) (roundsFirstLine (arenaOf text)) (first-line-is-counted (arenaOf text)))
+    subst (λ (p : List ℕ). checked text p ≡ Accepted) (sym (e ∙ written-plate w)) (written-is-accepted text (t .chart) (t .taken))

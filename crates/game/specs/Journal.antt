@@ -1,12 +1,12 @@
 -- The journal's own terms (source document 001, sections 2.1 and 2.4): unending plays with bits, strategies that see
--- positions only, safety, and α-resilience for α up to ω+1.
+-- positions only, safety, α-resilience for α up to ω+1, and the resilience of a vertex, which is a supremum.
 use Prim.Native.Nat.{ℕ, zero, suc, _<_}
 use mathlib.Core.Path.{_≡_}
 use mathlib.Core.Bool.{Bool, true, false, cond}
 use lib.Dec.{T}
 use Rattle.game.specs.Value.{Value, fin, ever}
 use Rattle.game.specs.Arena.{Arena, controller, size, ownerAt, unsafe, Meant, Disturbance}
-use Rattle.game.specs.Play.{Trail, still, meant, disturbed, cost, Controller}
+use Rattle.game.specs.Play.{Trail, still, meant, disturbed, Controller}
 
 -- "b_j = 0 implies (v_{j-1}, v_j) ∈ E, and b_j = 1 implies (v_{j-1}, v_j) ∈ D"
 abbrev pub Edge : Bool → Arena → ℕ → ℕ → Type 0
@@ -40,10 +40,15 @@ pub data Ordinal : Type 0 where
   ω : Ordinal
   ω+1 : Ordinal
 
+-- "#_d(ρ) = |{j ∈ ω | b_j = 1}|", among b_1, .., b_j: the bits are counted, whatever a disturbance costs
+unfoldable pub disturbances : {a : Arena} {v : ℕ} → Unending a v → ℕ → ℕ
+disturbances ρ zero = 0
+disturbances ρ (suc j) = cond (ρ .bit j) (suc (disturbances ρ j)) (disturbances ρ j)
+
 -- "#_d(ρ) < α": the number of disturbances is finite and below k; is finite; is anything
 abbrev pub FewerThan : {a : Arena} {v : ℕ} → Unending a v → Ordinal → Type 0
-FewerThan {a} {v} ρ (finite k) = (j : ℕ) → cost a v (prefix ρ j) < k
-FewerThan {a} {v} ρ ω = (k : ℕ) × ((j : ℕ) → cost a v (prefix ρ j) < k)
+FewerThan ρ (finite k) = (j : ℕ) → disturbances ρ j < k
+FewerThan ρ ω = (k : ℕ) × ((j : ℕ) → disturbances ρ j < k)
 FewerThan ρ ω+1 = Unit {0}
 
 -- "A strategy σ for Player 0 is α-resilient from v if every play ρ that starts in v, that is consistent with σ, and with #_d(ρ) < α, is winning"
@@ -74,11 +79,14 @@ _⊑_ ω+1 ω = ⊥
 _⊑_ ω+1 ω+1 = Unit {0}
 
 infix 4 _⊑_
--- "r(v) = sup{α ∈ ω+2 | Player 0 has an α-resilient strategy from v}": it is attained, and nothing above it is
+-- no member of "{α ∈ ω + 2 | Player 0 has an α-resilient strategy for G from v}" is above α
+abbrev pub UpperBound : Arena → ℕ → Ordinal → Type 0
+UpperBound a v α = (σ : Strategy a) (β : Ordinal) → Resilient a (σ .acts) v β → β ⊑ α
+
+-- "We define the resilience of a vertex v of G as r_G(v) = sup{α ∈ ω + 2 | Player 0 has an α-resilient strategy for G from v}."
 pub record ResilienceIs (a : Arena) (v : ℕ) (α : Ordinal) : Type 0 where
-  pub strategy : Strategy a
-  pub attained : Resilient a (strategy .acts) v α
-  pub supremum : (σ : Strategy a) (β : Ordinal) → Resilient a (σ .acts) v β → β ⊑ α
+  pub bound : UpperBound a v α
+  pub least : (β : Ordinal) → UpperBound a v β → α ⊑ β
 
 -- a value as an ordinal: ""ever" is its ω+1"
 unfoldable pub ordinalOf : Value → Ordinal

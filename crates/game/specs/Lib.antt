@@ -29,7 +29,6 @@ pub mod Prepend
 pub mod Optimal
 pub mod RestrictLaws
 pub mod Extend
-pub mod Resilience
 pub mod MoveTests
 pub mod PlacementLaws
 pub mod TableLaws
@@ -43,6 +42,7 @@ pub mod RoundHolding
 pub mod RoundRuin
 pub mod RoundCertificate
 pub mod RoundValues
+pub mod Resilience
 pub mod ConditionTests
 pub mod FaultLaws
 pub mod WellFormedTest

@@ -1,24 +1,27 @@
--- the journal's resilience is the value. A controller is k-resilient exactly when no finite play that costs less than k is
+-- The journal's resilience is the value. A controller is k-resilient exactly when no finite play that costs less than k is
 -- unsafe, and ω-resilient exactly when (ω+1)-resilient: prefixes of unending plays are plays, and plays extend to unending ones.
--- Strategies of the journal are blind to the bits; a positional controller is one.
+-- Strategies of the journal are blind to the bits; a positional controller is one, and that of the rounds' choices attains the
+-- value. So the supremum is a maximum, in every well-formed arena.
 use Prim.Native.Nat.{ℕ, zero, suc, _<_, suc-le-suc}
 use native.Mathlib.Omega.{arith}
+use native.Mathlib.Decide.{decLt}
 use native.Mathlib.Nat.{lt-of-le-of-lt}
 use mathlib.Core.Path.{_≡_, refl, sym, ap, subst}
 use mathlib.Core.Logic.{_⊎_, inl, inr, _↔_, Iff·trans}
+use mathlib.Core.Bool.{Bool, true, false, cond}
 use lib.Dec.{T}
 use Rattle.game.specs.Value.{Value, fin, ever, _≼_}
 use Rattle.game.specs.Arena.{Arena, size, unsafe, WellFormed}
 use Rattle.game.specs.Play.{Trail, still, meant, disturbed, last, cost, Controller, Play, Unsafe, Legal, positional}
 use Rattle.game.specs.Worth.{AlwaysSafe, SafeBelow, AtMost, IsValue}
-use Rattle.game.specs.Certificate.{Certificate}
-use Rattle.game.specs.Journal.{Unending, prefix, Consistent, Safe, Ordinal, finite, ω, ω+1, Resilient, forget, Strategy, _⊑_, ResilienceIs, ordinalOf}
-use Rattle.game.specs.PlayLaws.{stands-unsafe}
-use Rattle.game.specs.Bounds.{AtLeast, safe-below-is-at-least, always-safe-is-at-least, bounds-in-order, worth-is-both-bounds}
-use Rattle.game.specs.Ruin.{certificate-gives-at-most}
-use Rattle.game.specs.Certified.{certificate-is-legal, certificate-gives-worths, certificate-gives-values}
-use Rattle.game.specs.Unique.{value-is-unique}
-use Rattle.game.specs.Extend.{moved-last, moved-unsafe, moved-play, Extension, play-can-be-extended}
+use Rattle.game.specs.Table.{roundValue}
+use Rattle.game.specs.Best.{bestAt}
+use Rattle.game.specs.Journal.{Unending, prefix, Consistent, Safe, Ordinal, finite, ω, ω+1, disturbances, Resilient, forget, Strategy, _⊑_, UpperBound, ResilienceIs, ordinalOf}
+use Rattle.game.specs.PlayLaws.{disturbance-costs-one, stands-unsafe}
+use Rattle.game.specs.Bounds.{AtLeast, safe-below-is-at-least, always-safe-is-at-least, bounds-in-order, worth-is-both-bounds, value-is-bounds}
+use Rattle.game.specs.Extend.{moved, moved-last, moved-unsafe, moved-play, Extension, play-can-be-extended}
+use Rattle.game.specs.BestLaws.{best-is-legal}
+use Rattle.game.specs.RoundValues.{rounds-give-the-values, the-value-is-the-rounds, round-choices-are-worth-the-values}
 
 -- the order of ordinals is that of values, with ω below "ever" alone
 ordinals-in-order : (x y : Value) → x ≼ y → ordinalOf x ⊑ ordinalOf y
@@ -62,6 +65,18 @@ forget-last v (meant t w) = refl
 forget-last v (disturbed t w) = refl
 
 module _ (a : Arena) (v : ℕ) (ρ : Unending a v) where
+  -- the journal counts the bits, document 01 adds up what the disturbances count: the same while each counts one
+  pub bits-are-the-cost : (j : ℕ) → disturbances ρ j ≡ cost a v (prefix ρ j)
+  unfolding disturbances prefix cost
+  bits-are-the-cost zero = refl
+  bits-are-the-cost (suc j) = go (ρ .bit j) (bits-are-the-cost j)
+    where
+      go :
+          (b : Bool) → disturbances ρ j ≡ cost a v (prefix ρ j)
+          → cond b (suc (disturbances ρ j)) (disturbances ρ j) ≡ cost a v (moved b (prefix ρ j) (ρ .position (suc j)))
+      go true e = let one = disturbance-costs-one a (last v (prefix ρ j)) (ρ .position (suc j)) in omega arith
+      go false e = e
+
   prefix-last : (j : ℕ) → last v (prefix ρ j) ≡ ρ .position j
   unfolding prefix last
   prefix-last zero = sym (ρ .starts)
@@ -106,15 +121,15 @@ module _ (a : Arena) (wf : WellFormed a) (σ : Controller a) (v : ℕ) where
   finite-resilience k = (
     λ resilient t p less u.
         let e = play-can-be-extended a σ v wf t p in
-        safe-extension a σ v t e (resilient (e .play) (e .consistent) (λ j. lt-of-le-of-lt (e .no-more j) less)) u,
-    λ safe ρ consistent fewer. safe-prefixes a v ρ (λ j u. safe (prefix ρ j) (prefix-is-play a v ρ σ consistent j) (fewer j) u),
+        safe-extension a σ v t e (resilient (e .play) (e .consistent) (λ j. rw (bits-are-the-cost a v (e .play) j) (lt-of-le-of-lt (e .no-more j) less))) u,
+    λ safe ρ consistent fewer. safe-prefixes a v ρ (λ j u. safe (prefix ρ j) (prefix-is-play a v ρ σ consistent j) (rw (bits-are-the-cost a v ρ j) at (fewer j)) u),
   )
 
   -- ω-resilient already: no finite play is unsafe
   ω-resilience-is-safety : Resilient a σ v ω → AlwaysSafe a σ v
   ω-resilience-is-safety resilient t p u =
       let e = play-can-be-extended a σ v wf t p in
-      safe-extension a σ v t e (resilient (e .play) (e .consistent) (suc (cost a v t), λ j. suc-le-suc (e .no-more j))) u
+      safe-extension a σ v t e (resilient (e .play) (e .consistent) (suc (cost a v t), λ j. rw (bits-are-the-cost a v (e .play) j) (suc-le-suc (e .no-more j)))) u
 
   pub ω+1-resilience : Resilient a σ v ω+1 ↔ AlwaysSafe a σ v
   ω+1-resilience = (
@@ -150,38 +165,58 @@ unfolding positional
 positional-strategy a choice legal = record { acts = positional a choice legal; blind = λ v t. rw (forget-last v t) }
 
 pub resilience-is-unique : (a : Arena) (v : ℕ) (α β : Ordinal) → ResilienceIs a v α → ResilienceIs a v β → α ≡ β
-resilience-is-unique a v α β p q = ⊑antisym α β (q .supremum (p .strategy) α (p .attained)) (p .supremum (q .strategy) β (q .attained))
+resilience-is-unique a v α β p q = ⊑antisym α β (p .least β (q .bound)) (q .least α (p .bound))
 
-module _
-    (a : Arena) (wf : WellFormed a) (value choice step : ℕ → Value) (certificate : Certificate a value choice step)
-    (v : ℕ) (inside : v < size a)
-  where
-    -- under a certificate the values are the journal's resiliences
-    pub certificate-gives-resilience : ResilienceIs a v (ordinalOf (value v))
-    unfolding positional-strategy
-    certificate-gives-resilience =
-        let legal = certificate-is-legal a value choice step certificate in
-        let σ = positional a choice legal in
-        let worth = certificate-gives-worths a wf value choice step certificate legal v inside in
-        record {
-          strategy = positional-strategy a choice legal;
-          attained = resilient-is-at-least a wf σ v (value v) .1 (worth-is-both-bounds a σ v (value v) .0 worth .0);
-          supremum =
-              λ τ β resilient.
-              let at-most = certificate-gives-at-most a wf value choice step certificate (τ .acts) v inside in
-              resilience-bounded a wf (τ .acts) v (value v) β at-most resilient;
-        }
+-- the supremum as a maximum: α is the greatest for which there is an α-resilient strategy from v
+pub record AttainedResilience (a : Arena) (v : ℕ) (α : Ordinal) : Type 0 where
+  pub strategy : Strategy a
+  pub attained : Resilient a (strategy .acts) v α
+  pub bound : UpperBound a v α
 
-    -- a value is the journal's resilience
-    pub value-is-resilience : (x : Value) → IsValue a v x ↔ ResilienceIs a v (ordinalOf x)
-    value-is-resilience x =
-        let here = certificate-gives-resilience in
-        let right = certificate-gives-values a wf value choice step certificate v inside in (
-          λ i. subst (λ (y : Value). ResilienceIs a v (ordinalOf y)) (value-is-unique a v (value v) x right i) here,
-          λ r. subst (IsValue a v) (ordinal-injective (value v) x (resilience-is-unique a v (ordinalOf (value v)) (ordinalOf x) here r)) right,
-        )
+pub attained-is-resilience : (a : Arena) (v : ℕ) (α : Ordinal) → AttainedResilience a v α → ResilienceIs a v α
+attained-is-resilience a v α r = record { bound = r .bound; least = λ β bound. bound (r .strategy) α (r .attained) }
+
+-- the rounds' choices
+round-strategy : (a : Arena) → WellFormed a → Strategy a
+round-strategy a wf = positional-strategy a (bestAt a (roundValue a)) (best-is-legal a (roundValue a) wf)
+
+module _ (a : Arena) (wf : WellFormed a) (v : ℕ) (inside : v < size a) where
+  rounds-attain-the-resilience : AttainedResilience a v (ordinalOf (roundValue a v))
+  unfolding round-strategy positional-strategy
+  rounds-attain-the-resilience =
+      let σ = round-strategy a wf in
+      let worth = round-choices-are-worth-the-values a wf v inside in
+      let at-most = value-is-bounds a v (roundValue a v) .0 (rounds-give-the-values a wf v inside) .1 in
+      record {
+        strategy = σ;
+        attained = resilient-is-at-least a wf (σ .acts) v (roundValue a v) .1 (worth-is-both-bounds a (σ .acts) v (roundValue a v) .0 worth .0);
+        bound = λ τ β resilient. resilience-bounded a wf (τ .acts) v (roundValue a v) β (at-most (τ .acts)) resilient;
+      }
+
+  rounds-give-the-resilience : ResilienceIs a v (ordinalOf (roundValue a v))
+  rounds-give-the-resilience = attained-is-resilience a v (ordinalOf (roundValue a v)) rounds-attain-the-resilience
+
+  the-resilience-is-the-rounds : (α : Ordinal) → ResilienceIs a v α → ordinalOf (roundValue a v) ≡ α
+  the-resilience-is-the-rounds α r = resilience-is-unique a v (ordinalOf (roundValue a v)) α rounds-give-the-resilience r
+
+  pub resilience-is-attained : (α : Ordinal) → ResilienceIs a v α → AttainedResilience a v α
+  resilience-is-attained α r = subst (AttainedResilience a v) (the-resilience-is-the-rounds α r) rounds-attain-the-resilience
+
+  -- a value is the journal's resilience
+  pub value-is-resilience : (x : Value) → IsValue a v x ↔ ResilienceIs a v (ordinalOf x)
+  value-is-resilience x = (
+    λ i. rw (the-value-is-the-rounds a wf v x inside i) rounds-give-the-resilience,
+    λ r. subst (IsValue a v) (ordinal-injective (roundValue a v) x (the-resilience-is-the-rounds (ordinalOf x) r)) (rounds-give-the-values a wf v inside),
+  )
 
 -- "The journal's value ω can't occur for safety"
 pub ω-does-not-occur : (a : Arena) → WellFormed a → (v : ℕ) → ResilienceIs a v ω → ⊥
 unfolding _⊑_
-ω-does-not-occur a wf v r = r .supremum (r .strategy) ω+1 (ω-resilience a wf (r .strategy .acts) v .0 (r .attained))
+ω-does-not-occur a wf v r = go (decLt v (size a))
+  where
+    go : Dec (v < size a) → ⊥
+    go (yes inside) =
+        let here = resilience-is-attained a wf v inside ω r in
+        r .bound (here .strategy) ω+1 (ω-resilience a wf (here .strategy .acts) v .0 (here .attained))
+    -- no play starts outside the arena
+    go (no outside) = r .bound (round-strategy a wf) ω+1 (λ ρ consistent fewer. absurd (outside (ρ .inside)))

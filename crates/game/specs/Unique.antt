@@ -42,6 +42,6 @@ module _ (a : Arena) (v : ℕ) where
   pub greatest-is-unique : (x y : Value) → Greatest a v x → Greatest a v y → x ≡ y
   greatest-is-unique x y p q = ≼antisym x y (q .greatest (p .best) x (p .attained)) (p .greatest (q .best) y (q .attained))
 
-  -- the other way where there is a value at all, as there is in every well-formed arena
+  -- the other way where there is a value at all, as there is in every well-formed arena: `value-exactly-when-greatest` of RoundValues
   pub greatest-is-value : (x : Value) → ((y : Value) × IsValue a v y) → Greatest a v x → IsValue a v x
   greatest-is-value x (y, q) g = subst (λ (z : Value). IsValue a v z) (greatest-is-unique y x (value-is-greatest y q) g) q

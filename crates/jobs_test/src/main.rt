@@ -1,7 +1,7 @@
 // Asks the jobs about charts, plates, steps and rows of choices, good and bad, and writes what each answers and what the case is.
 // `stdin` has the cases, `stdout` what document 01 says of each. The first letter of a case's name is its job: `E` examines a chart, `C`
 // is Checking, `R` Reading, `W` the program's answer, `S` a step of a run and `D` Comparing.
-ghost use Prim.Native.Nat.{_≤_};
+ghost use Rattle.cases.specs.CaseLaws.{Ordered};
 ghost use lib.ListN.{length};
 use cases::Case;
 use cases::case_at;
@@ -31,7 +31,7 @@ fn main() {
 // The cases of the input, of which there are fewer than 400.
 fn cases(input: &[u8]) {
     let mut at: usize = 0;
-    let mut run = Run::restored(0, 0, 0);
+    let mut run = Run::none();
     let mut k: usize = 0;
     while k < 400 {
         let next = show_case(input, case_at(input, at), run);
@@ -43,7 +43,7 @@ fn cases(input: &[u8]) {
 
 // Shows a case. Past the input's end it shows nothing.
 fn show_case(input: &[u8], c: Case, run: Run) -> Next
-    requires { ⌜ (c .name ≤ c .first) × (c .first ≤ c .second) × (c .second ≤ c .third) × (c .third ≤ c .end) × (c .end ≤ length (now input)) ⌝ }
+    requires { ⌜ Ordered (length (now input)) c ⌝ }
 {
     let name = c.name;
     let first = c.first;

@@ -1,7 +1,7 @@
 // Runs: a start or a report, `A` with position, disturbances seen, starting value, choice and value; or `R`, number and line, for a start
 // the fault's position and condition, for a report the run's three numbers. A step is a letter and fields: `S` and a position, a start; `G`
-// and a target, a report of the run that the case before left; `R`, a target and a run's three numbers, a report of that run; `N`, the
-// same with 100,000 seen, which no field holds. `max` is the largest number of its kind.
+// and a target, a report of the run that the case before left; `T`, a target, a position and a count, the same after so many reports of
+// the target and the position in turn. `max` is the largest number.
 use field::Field;
 use field::read;
 use run::Advice;
@@ -14,41 +14,44 @@ pub fn step(chart: &[u8], plate: &[u8], words: &[u8], run: Run) -> Run {
     if words.len() < 6 {
         return run;
     }
-    let to = number(read(words, 1), 18446744073709551615);
+    let to = number(read(words, 1));
     if words[0] == b'S' {
         return start(chart, plate, to);
     }
-    report(named(words, run), chart, plate, to)
+    report(turned(words, run, chart, plate, to), chart, plate, to)
 }
 
-// The run that a report is of: the one of the step's fields, or the one left.
-fn named(words: &[u8], run: Run) -> Run {
-    if words.len() < 21 {
+// The run that a report is of: the one left, after the turns that the step's fields ask for.
+fn turned(words: &[u8], run: Run, chart: &[u8], plate: &[u8], to: usize) -> Run {
+    if words.len() < 16 {
         return run;
     }
-    let position = number(read(words, 6), 18446744073709551615);
-    let seen = if words[0] == b'N' {
-        100000
-    } else {
-        number(read(words, 11), 4294967295)
-    };
-    let initial = number(read(words, 16), 65535);
-    Run::restored(
-        position,
-        (seen % 4294967296) as u32,
-        (initial % 65536) as u16,
-    )
+    let back = number(read(words, 6));
+    let count = number(read(words, 11));
+    let mut after = run;
+    let mut k: usize = 0;
+    while k < count {
+        after = went(went(after, chart, plate, to), chart, plate, back);
+        k += 1;
+    }
+    after
+}
+
+// The run that a report hands back.
+fn went(run: Run, chart: &[u8], plate: &[u8], to: usize) -> Run {
+    let r = run.report(chart, plate, to);
+    r.run
 }
 
 // A field's number, or the largest.
-fn number(f: Field, largest: usize) -> usize {
+fn number(f: Field) -> usize {
     match f {
         Field::Number(x) => x as usize,
-        Field::Bad => largest,
+        Field::Bad => 18446744073709551615,
     }
 }
 
-// A start's answer; the run that began, or one at 0 that is made up.
+// A start's answer; the run that began, or none.
 fn start(chart: &[u8], plate: &[u8], position: usize) -> Run {
     match Run::start(chart, plate, position) {
         Started::Begun(run, advice) => taken(run, advice),
@@ -59,7 +62,7 @@ fn start(chart: &[u8], plate: &[u8], position: usize) -> Run {
                 show(r.position as u64);
                 show(r.condition as u64);
             }
-            Run::restored(0, 0, 0)
+            Run::none()
         }
     }
 }

@@ -1,7 +1,9 @@
 -- Laws of entries in a column: what is of the form is the entry of its value, and a value in range has an entry of the form.
 use Prim.Native.Nat.{ℕ, _≤_, _<_}
 use native.Mathlib.Omega.{arith}
-use mathlib.Core.Path.{_≡_, refl}
+use mathlib.Core.Path.{_≡_, refl, sym, subst}
+use Rattle.game.specs.Play.{LegalAs}
+use Rattle.game.specs.Arena.{Arena, Owner, controller, environment, WellFormed, size, meantMove}
 use Rattle.rows.specs.Numbers.{numberOf}
 use Rattle.rows.specs.NumberLaws.{Fits}
 use Rattle.game.specs.Value.{Value, fin, ever}
@@ -83,3 +85,16 @@ pub below-fits : (b : ℕ) (x : Value) → b ≤ 65535 → Below b x → Fits x
 unfolding Below
 below-fits b (fin k) l h = omega arith
 below-fits b ever l h = tt
+
+-- What is in range
+
+pub below-when : (b : ℕ) (x : Value) → ((k : ℕ) → x ≡ fin k → k < b) → Below b x
+unfolding Below
+below-when b (fin k) h = h k refl
+below-when b ever h = tt
+
+-- a legal choice is a position or the dash
+pub legal-below : (a : Arena) → WellFormed a → (o : Owner) (v : ℕ) (x : Value) → LegalAs o a v x → Below (size a) x
+unfolding Below
+legal-below a well controller v x l = subst (Below (size a)) (sym (l .1)) (well .to-position (meantMove v (l .0)) (l .2))
+legal-below a well environment v x l = subst (Below (size a)) (sym l) tt

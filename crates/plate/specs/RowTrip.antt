@@ -5,7 +5,7 @@ use native.Mathlib.Omega.{arith}
 use mathlib.Core.Path.{_≡_, ap, _∙_}
 use mathlib.Core.List.{List, _++_}
 use Rattle.rows.specs.Rows.{RowIs}
-use Rattle.rows.specs.Numbers.{numberOf, valueOf, rowValue}
+use Rattle.rows.specs.Numbers.{numberOf, valueOf, rowValue, Agree}
 use Rattle.rows.specs.NumberLaws.{Fits, value-of-number}
 use Rattle.game.specs.Value.{Value}
 use Rattle.rows.specs.declared.FirstLine.{FirstLine}
@@ -16,10 +16,6 @@ use Rattle.plate.specs.Read.{headerIn, valueIn, choiceIn, stepIn, RowsRe
 use Rattle.plate.specs.Range.{InRange}
 use Rattle.plate.specs.RangeLaws.{below-fits}
 use Rattle.plate.specs.RoundTrip.{read-in-range, writing-undoes-reading, reading-undoes-writing}
-
--- two columns agree on the first n positions
-abbrev pub Agree : ℕ → (f g : ℕ → Value) → Type 0
-Agree n f g = (v : ℕ) → v < n → f v ≡ g v
 
 lines-same : (value value′ choice choice′ step step′ : ℕ → Value) (n : ℕ) → Agree n value value′ → Agree n choice choice′ → Agree n step step′ →
     positionLines value choice step n ≡ positionLines value′ choice′ step′ n

@@ -1,2 +1,3 @@
 pub mod Response
 pub mod ResponseLaws
+pub mod RefusalLine

@@ -17,7 +17,7 @@ use Rattle.chart.specs.declared.Examination.{Examination}
 use Rattle.chart.specs.declared.Examination.the-variants.{Accepted, Refused}
 use Rattle.writing.specs.Writing.{plateOf}
 
--- "the single line `R`, number, line"; the line is below 100,000, since a chart has 4,609 lines at most
+-- "the single line `R`, number, line"; the line is below 100,000 (specs/RefusalLine.antt: a chart has 4,609 lines at most)
 abbrev pub refusalText : Refusal → List ℕ
 refusalText x = lineText 82 (Number (numbersOf x .number) ∷ Number (numbersOf x .line % 100000) ∷ [])
 

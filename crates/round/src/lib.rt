@@ -104,7 +104,8 @@ fn spot(cost: u8, meant: bool, seeks: u8, shows: u8, from: usize) -> usize
 }
 
 // Notes the position that the i-th move leaves, if the move is of the kind sought and its target shows what the position seeks. Any
-// other move notes a place that nobody reads: the test goes either way at random, and a jump on it would cost more than the rest.
+// other move notes a place that nobody reads, so that no jump is needed: the test goes either way at random. (For disturbances the
+// compiler makes one all the same.)
 fn note_by(
     i: usize,
     meant: bool,

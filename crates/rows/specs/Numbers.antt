@@ -1,6 +1,7 @@
 -- Values as numbers in rows (document 01, "The plate"): "In rows of 16-bit numbers all of these are 65,535", the text `ever` and the
 -- dash.
-use Prim.Native.Nat.{ℕ}
+use Prim.Native.Nat.{ℕ, _<_}
+use mathlib.Core.Path.{_≡_}
 use mathlib.Core.Bool.{Bool, cond}
 use mathlib.Core.List.{List}
 use lib.ListN.{getD}
@@ -26,3 +27,7 @@ rowValue row v = valueOf (getD row v 0)
 -- 65,535 in a row: "ever", or not placed yet
 abbrev pub free : List ℕ → ℕ → Bool
 free row v = eqb (getD row v 0) 65535
+
+-- two columns of values agree at the first n positions
+abbrev pub Agree : ℕ → (f g : ℕ → Value) → Type 0
+Agree n f g = (v : ℕ) → v < n → f v ≡ g v

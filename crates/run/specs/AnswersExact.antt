@@ -5,11 +5,13 @@ use mathlib.Core.Path.{_≡_, refl, ap, subst, _∙_}
 use mathlib.Core.Logic.{_↔_, inl, inr}
 use mathlib.Core.Bool.{Bool, true, false, cond}
 use mathlib.Core.List.{List}
+use native.Mathlib.Omega.{arith}
 use lib.Dec.{ltb}
 use borrow.Author.Tests.{ltb-true, ltb-false, lt-ltb, le-ltb}
 use Rattle.game.specs.Arena.{size}
 use Rattle.chart.specs.Meaning.{arenaOf}
 use Rattle.chart.specs.Examined.{examined}
+use Rattle.chart.specs.Accepted.{accepted-few, accepted-size}
 use Rattle.rows.specs.declared.Chart.{Chart}
 use Rattle.refusal.specs.declared.Refusal.{Refusal}
 use Rattle.refusal.specs.declared.Refusal.the-variants.{Chart as OfChart, Short, Plate, Choice, Position, Fault, Move, Seen}
@@ -25,7 +27,7 @@ use Rattle.checking.specs.AnswersExact.{accepted-sound, faulty-at, verdict-mean
 use Rattle.verdict.specs.declared.Verdict.{Verdict}
 use Rattle.verdict.specs.declared.Verdict.the-variants.{Sound, Fault as FaultAt}
 use Rattle.moves.specs.Moves.{moveKind}
-use Rattle.run.specs.Running.{moved, reported, reportedBy, reportedForm, reportedInside, reportedMove, standing, started, startedBy, startedForm, startedInside, startedVerdict, unmoved}
+use Rattle.run.specs.Running.{moved, noRun, reported, reportedBy, reportedForm, reportedInside, reportedMove, standing, started, startedBy, startedForm, startedInside, startedVerdict, unmoved}
 use Rattle.run.specs.Answers.{Moves, Readable, ReportIs, ReportRefused, StartIs, StartRefused}
 use Rattle.moves.specs.declared.Kind.{Kind}
 use Rattle.moves.specs.declared.Kind.the-variants.{Meant, Disturbance, Neither}
@@ -121,6 +123,11 @@ module _ (run : Run) (text plate : List ℕ) (to : ℕ) where
     λ e. subst Is e answered,
     from after r,
   )
+
+-- "begins only by the start job": where none began, there is no run to report of. 13, whatever is reported
+pub no-run-refused : (text plate : List ℕ) (to : ℕ) → Readable text plate → reported noRun text plate to ≡ unmoved noRun Position
+no-run-refused text plate to w =
+    refusal-from noRun text plate to Position (w, inl (omega (arith, accepted-few text (w .chart) (w .taken), accepted-size text (w .chart) (w .taken))))
 
 -- A start
 module _ (text plate : List ℕ) (position : ℕ) where

@@ -42,6 +42,10 @@ runOf position seen initial = record { position = position; seen = seen; initial
 unfoldable pub runAt : List ℕ → ℕ → Run
 runAt plate position = runOf position 0 (numberOf (valueIn plate position))
 
+-- no run: its position, the largest number, is on no chart (specs/AnswersExact.antt: a report of it gives 13)
+abbrev pub noRun : Run
+noRun = runOf 18446744073709551615 0 0
+
 abbrev pub begunAt : List ℕ → ℕ → Started
 begunAt plate position = Begun (runAt plate position) (adviceAt plate position)
 

@@ -5,7 +5,7 @@ ghost use Prim.Native.Nat.{ℕ, _≤_, _<_};
 ghost use Rattle.rows.specs.Rows.{ChartRows};
 ghost use Rattle.plate.specs.Formed.{formOf};
 ghost use Rattle.verdict.specs.Sheet.{Ascending};
-ghost use Rattle.run.specs.Running.{FormedReport, FormedStart, RowsReport, RowsStart, adviceAt, begunAt, moved, reported, runOf, standing, started, unmoved};
+ghost use Rattle.run.specs.Running.{FormedReport, FormedStart, RowsReport, RowsStart, adviceAt, begunAt, moved, noRun, reported, standing, started, unmoved};
 use chart::Examination;
 use checking::check_formed;
 use decode::load;
@@ -108,14 +108,14 @@ impl Run {
         }
     }
 
-    // A run that was stored, from its three numbers. Nothing is tested: a report is defined for every run.
-    pub fn restored(position: usize, seen: u32, initial: u16) -> Self
-        ensures { λ r. ⌜ r ≡ runOf position seen initial ⌝ }
+    // No run: what a caller holds where no start began one. It stands on no chart, so every report of it is refused.
+    pub fn none() -> Self
+        ensures { λ r. ⌜ r ≡ noRun ⌝ }
     {
         Run {
-            position,
-            seen,
-            initial,
+            position: 18446744073709551615,
+            seen: 0,
+            initial: 0,
         }
     }
 
@@ -215,7 +215,7 @@ fn begin(n: usize, plate: &[u8], position: usize) -> Started
     Started::Begun(
         Run {
             position,
-            seen: 0,
+            seen: 0u32,
             initial,
         },
         advice,

@@ -1,2 +1,4 @@
 pub mod Valuing
+pub mod ValuedMeans
 pub mod ValuingLaws
+pub mod ValuedMeansHold

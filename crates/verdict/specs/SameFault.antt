@@ -5,6 +5,7 @@ use mathlib.Core.Logic.{_⊎_, inl, inr}
 use mathlib.Core.Bool.{Bool, cond, not, _&&_, _||_}
 use lib.Dec.{T, T-not}
 use mathlib.Core.List.{List, [], _∷_, List·Memᴰ, List·Memᴰ·head, List·Memᴰ·tail}
+use Rattle.rows.specs.Numbers.{Agree}
 use Rattle.game.specs.Value.{Value, fin, ever, leV, eqV, _⊕_}
 use Rattle.game.specs.Arena.{Arena, Move, Owner, controller, environment, WellFormed, ownerAt, size, unsafe}
 use Rattle.game.specs.Play.{disturbanceCost, targetOf}
@@ -13,7 +14,6 @@ use Rattle.game.specs.Fault.{earlier, unsafeZero, dashed, legalAs, meantHold, d
 use Rattle.game.specs.MoveTests.{is-true, is-false, passes-or-fails}
 use Rattle.rows.specs.FirstLineLaws.{first-line-same}
 use Rattle.rows.specs.declared.FirstLine.{FirstLine}
-use Rattle.plate.specs.RowTrip.{Agree}
 use Rattle.verdict.specs.Verdict.{headerRight, headerVerdict, verdictOf}
 use Rattle.verdict.specs.Exact.{header-test}
 use Rattle.verdict.specs.VerdictLaws.{same-first}

@@ -13,8 +13,8 @@ none-requires c κs = search needs
 enum-known-answer-2 : tie.Need-enum-known-answer-2
 enum-known-answer-2 c = search needs
 
-restored-requires : tie.Need-restored-requires
-restored-requires c κs = search needs
+none-requires-2 : tie.Need-none-requires-2
+none-requires-2 c κs = search needs
 
 refused-step-requires : tie.Need-refused-step-requires
 refused-step-requires c κs = search needs
@@ -23,7 +23,7 @@ returns : tie.Need-returns
 returns c = rw (c .before .before .answer .given .1, c .none .ensures)
 
 returns-2 : tie.Need-returns-2
-returns-2 c = c .refused-step .ensures ∙ rw (c .before .before .before .answer2 .given .1, c .before .restored .ensures)
+returns-2 c = c .refused-step .ensures ∙ rw (c .before .before .before .answer2 .given .1, c .before .none2 .ensures)
 
 pub started-numbers-spec : {M : Type 1} → statement M
 started-numbers-spec =
@@ -32,7 +32,7 @@ started-numbers-spec =
     enum-known-answer
     none-requires
     enum-known-answer-2
-    restored-requires
+    none-requires-2
     refused-step-requires
     returns
     returns-2)

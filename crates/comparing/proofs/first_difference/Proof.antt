@@ -8,8 +8,9 @@ use mathlib.Core.List.{List}
 use mathlib.Core.Bool.{Bool}
 use lib.Dec.{eqb}
 use borrow.Author.Tests.{eq-eqb, ne-eqb}
+use Rattle.rows.specs.Numbers.{numberAt}
 use Rattle.search.specs.First.{firstFrom, first-next, first-stop, first-done}
-use Rattle.comparing.specs.Comparing.{firstDifference, rowNumber}
+use Rattle.comparing.specs.Comparing.{firstDifference}
 use Rattle.comparing.specs.declared.Compared.{Compared}
 use Rattle.comparing.specs.declared.Compared.the-variants.{Agree, Differ}
 use Rattle.comparing.proofs.first_difference.Statement.{statement}
@@ -17,13 +18,13 @@ use Rattle.comparing.proofs.first_difference.Tie as tie
 
 -- the test at a position, and the answer where it fails
 abbrev same : List ℕ → List ℕ → ℕ → Bool
-same values worths v = eqb (rowNumber values v) (rowNumber worths v)
+same values worths v = eqb (numberAt values v) (numberAt worths v)
 
 abbrev differ : List ℕ → List ℕ → ℕ → Compared
-differ values worths v = Differ v (rowNumber values v) (rowNumber worths v)
+differ values worths v = Differ v (numberAt values v) (numberAt worths v)
 
 abbrev Inv-loop : tie.InvT-loop
-Inv-loop n values worths v₀ v = (v ≤ n) × (firstFrom (same values worths) (differ values worths) Agree (n - v) v ≡ firstDifference (rowNumber values) (rowNumber worths) n)
+Inv-loop n values worths v₀ v = (v ≤ n) × (firstFrom (same values worths) (differ values worths) Agree (n - v) v ≡ firstDifference (numberAt values) (numberAt worths) n)
 
 abbrev μ-loop : tie.MeasureT-loop
 μ-loop n values worths v₀ v = n - v

@@ -2,6 +2,7 @@
 use Prim.Native.Nat.{_-_, _≤_}
 use native.Mathlib.Omega.{arith}
 use borrow.Author.Needs.{needs}
+use Rattle.cases.specs.CaseLaws.{case-ordered}
 use Rattle.jobs_test.proofs.cases.Statement.{statement}
 use Rattle.jobs_test.proofs.cases.Tie as tie
 
@@ -11,8 +12,8 @@ Inv-loop input at₀ run₀ k₀ at run k = k ≤ 400
 abbrev μ-loop : tie.MeasureT-loop
 μ-loop input at₀ run₀ k₀ at run k = 400 - k
 
-restored-requires : tie.Need-restored-requires Inv-loop μ-loop
-restored-requires c κs = search needs
+none-requires : tie.Need-none-requires Inv-loop μ-loop
+none-requires c κs = search needs
 
 loop-holds : tie.Need-loop-holds Inv-loop μ-loop
 loop-holds c = omega arith
@@ -21,7 +22,7 @@ case-at-requires : tie.Need-case-at-requires Inv-loop μ-loop
 case-at-requires c κs = search needs
 
 show-case-requires : tie.Need-show-case-requires Inv-loop μ-loop
-show-case-requires c κs = c .case-at .ensures
+show-case-requires c κs = rw (c .case-at .ensures) (case-ordered _ _)
 
 add-k : tie.Need-add-k Inv-loop μ-loop
 add-k c = omega arith
@@ -41,7 +42,7 @@ cases-spec =
     (tie.spec
     Inv-loop
     μ-loop
-    restored-requires
+    none-requires
     loop-holds
     case-at-requires
     show-case-requires

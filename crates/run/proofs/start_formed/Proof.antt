@@ -1,4 +1,5 @@
 -- `start_formed` meets its contract: a position outside is 13, a fault of the rows is 14, and on a sound plate the run begins.
+use native.Mathlib.Omega.{arith}
 use mathlib.Core.Path.{refl}
 use Rattle.run.specs.Running.{startedVerdict}
 use Rattle.run.specs.RunningLaws.{start-inside, start-outside}
@@ -25,13 +26,13 @@ returns-2 : tie.Need-returns-2
 unfolding startedVerdict
 returns-2 c =
     let checked = c .before .before .before in
-    start-inside _ _ (checked .before .if1 .left) (checked .check-formed .ensures) (c .before .v .given .1) refl
+    start-inside _ _ (omega arith) (checked .check-formed .ensures) (c .before .v .given .1) refl
 
 returns-3 : tie.Need-returns-3
 unfolding startedVerdict
 returns-3 c =
     let checked = c .before .before .before in
-    start-inside _ _ (checked .before .if1 .left) (checked .check-formed .ensures) (c .before .enum-told .given .1) (c .begin .ensures)
+    start-inside _ _ (omega arith) (checked .check-formed .ensures) (c .before .enum-told .given .1) (c .begin .ensures)
 
 pub start-formed-spec : {M : Type 1} → statement M
 start-formed-spec =

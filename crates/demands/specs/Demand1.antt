@@ -1,0 +1,168 @@
+-- The mission's first demand, of the answers: "no misdrawn sheet is taken, and no refusal changes a lent buffer". With it stands document
+-- 01's sentence "the table is exact: a number is returned if its condition holds, and only then", in its order: "then 9; then 10 to 16
+-- by number as far as the job has them". Each job has its rows of the table in one list. That nothing makes a job stop, run on or read
+-- beyond its input is what every function of the library is proved for.
+use Prim.Native.Nat.{ℕ, _+_, _*_, _≤_, _<_}
+use mathlib.Core.Path.{_≡_}
+use mathlib.Core.Logic.{_⊎_, _↔_}
+use mathlib.Core.List.{List, [], _∷_}
+use lib.ListN.{length}
+use Rattle.rows.specs.Numbers.{rowValue}
+use Rattle.game.specs.Arena.{size, ownerAt}
+use Rattle.game.specs.Play.{LegalAt}
+use Rattle.refusal.specs.declared.Misdrawn.{Misdrawn}
+use Rattle.refusal.specs.declared.Refusal.{Refusal}
+use Rattle.refusal.specs.declared.Refusal.the-variants.{Chart as OfChart, Short, Plate, Choice, Position, Fault, Move, Seen}
+use Rattle.chart.specs.Meaning.{arenaOf}
+use Rattle.chart.specs.Refusals.{Applies, First}
+use Rattle.plate.specs.Form.{BadAt}
+use Rattle.plate.specs.Read.{headerIn, valueIn, choiceIn, stepIn}
+use Rattle.verdict.specs.Verdict.{FirstFaultIs}
+use Rattle.moves.specs.Moves.{KindSays}
+use Rattle.moves.specs.declared.Kind.{Kind}
+use Rattle.moves.specs.declared.Kind.the-variants.{Disturbance, Neither}
+use Rattle.valuing.specs.Valuing.{ValuedIs}
+use Rattle.valuing.specs.declared.Valued.{Valued}
+use Rattle.valuing.specs.declared.Valued.the-variants.{Refused as ValuingRefused}
+use Rattle.writing.specs.Writing.{WrittenIs}
+use Rattle.writing.specs.declared.Written.{Written}
+use Rattle.writing.specs.declared.Written.the-variants.{Refused as WritingRefused}
+use Rattle.reading.specs.Reading.{ReadingIs}
+use Rattle.reading.specs.declared.Reading.{Reading}
+use Rattle.reading.specs.declared.Reading.the-variants.{Refused as ReadingRefused}
+use Rattle.checking.specs.Checking.{checked}
+use Rattle.checking.specs.declared.Checked.{Checked}
+use Rattle.checking.specs.declared.Checked.the-variants.{Refused as CheckingRefused}
+use Rattle.weighing.specs.Weighing.{WeighedIs}
+use Rattle.weighing.specs.declared.Weighed.{Weighed}
+use Rattle.weighing.specs.declared.Weighed.the-variants.{Refused as WeighingRefused}
+use Rattle.comparing.specs.Compared.{ComparedIs}
+use Rattle.comparing.specs.declared.Compared.{Compared}
+use Rattle.comparing.specs.declared.Compared.the-variants.{Refused as ComparingRefused}
+use Rattle.run.specs.Running.{started, reported}
+use Rattle.run.specs.declared.Run.{Run}
+use Rattle.run.specs.declared.Started.{Started}
+use Rattle.run.specs.declared.Started.the-variants.{Refused as StartRefused}
+use Rattle.run.specs.declared.Reported.{Reported}
+use Rattle.run.specs.declared.Answer.the-variants.{Refused as ReportRefused}
+
+-- The table
+
+-- a row: the refusals that it gives, each with its condition
+abbrev pub Row : Type 1
+Row = Refusal → Type 0
+
+-- by rows in their order the refusal is x: its own condition holds, and none of a row before
+unfoldable pub RefusedBy : List Row → Refusal → Type 0
+RefusedBy [] x = ⊥
+RefusedBy (row ∷ rest) x = row x ⊎ (((y : Refusal) → row y → ⊥) × RefusedBy rest x)
+
+-- no row's condition holds
+unfoldable pub Clear : List Row → Type 0
+Clear [] = Unit {0}
+Clear (row ∷ rest) = ((y : Refusal) → row y → ⊥) × Clear rest
+
+-- a row that gives one refusal only
+abbrev pub only : Refusal → Type 0 → Row
+only y condition x = (x ≡ y) × condition
+
+-- 1 to 9, which have an order of their own: r applies to the chart and nothing before it does (chart/specs/Refusals.antt)
+abbrev pub misdrawn : (text : List ℕ) → Row
+misdrawn text x = (r : Misdrawn) × (x ≡ OfChart r) × First text r
+
+-- the count n of the chart's positions
+abbrev pub count : (text : List ℕ) → ℕ
+count text = size (arenaOf text)
+
+-- 10: "a lent buffer or row too short"
+abbrev pub TooShort : ℕ → List ℕ → Type 0
+TooShort needed lent = length lent < needed
+
+-- 11: "plate's length not 22 times (n+1), or a line not of the plate's form", with the lowest bad line
+abbrev pub malformed : (text plate : List ℕ) → Row
+malformed text plate x = (line : ℕ) × (x ≡ Plate line) × BadAt (count text) plate line
+
+-- 12: "a given choice not a meant target at O, or not 65,535 at L"
+abbrev pub IllegalChoice : (text choices : List ℕ) → Type 0
+IllegalChoice text choices = (v : ℕ) × (v < count text) × (LegalAt (arenaOf text) (rowValue choices) v → ⊥)
+
+-- 14: "checking finds a fault", with the first fault's position and condition
+abbrev pub faulty : (text plate : List ℕ) → Row
+faulty text plate x = (v : ℕ) × (c : ℕ) × (x ≡ Fault v c) × FirstFaultIs (arenaOf text) (valueIn plate) (choiceIn plate) (stepIn plate) (headerIn plate) v c
+
+-- what the move from the run's position is: 15 is for one that "can't follow", 16 for a disturbance
+abbrev pub MoveIs : Run → (text plate : List ℕ) → ℕ → Kind → Type 0
+MoveIs run text plate to = KindSays (ownerAt (arenaOf text) (run .position)) (arenaOf text) (choiceIn plate (run .position)) (run .position) to
+
+-- The jobs' rows of the table, in its order
+
+abbrev pub valuingRows : (text values choices steps : List ℕ) → List Row
+valuingRows text values choices steps =
+    misdrawn text ∷ only Short (TooShort (count text) values ⊎ (TooShort (count text) choices ⊎ TooShort (count text) steps)) ∷ []
+
+abbrev pub writingRows : (text out : List ℕ) → List Row
+writingRows text out = misdrawn text ∷ only Short (TooShort (22 * (count text + 1)) out) ∷ []
+
+abbrev pub readingRows : (text plate values choices steps : List ℕ) → List Row
+readingRows text plate values choices steps =
+    misdrawn text
+    ∷ only Short (TooShort (count text) values ⊎ (TooShort (count text) choices ⊎ TooShort (count text) steps))
+    ∷ malformed text plate
+    ∷ []
+
+abbrev pub checkingRows : (text plate : List ℕ) → List Row
+checkingRows text plate = misdrawn text ∷ malformed text plate ∷ faulty text plate ∷ []
+
+abbrev pub weighingRows : (text choices worths : List ℕ) → List Row
+weighingRows text choices worths =
+    misdrawn text ∷ only Short (TooShort (count text) choices ⊎ TooShort (count text) worths) ∷ only Choice (IllegalChoice text choices) ∷ []
+
+abbrev pub comparingRows : (text plate choices : List ℕ) → List Row
+comparingRows text plate choices =
+    misdrawn text
+    ∷ only Short (TooShort (count text) choices)
+    ∷ malformed text plate
+    ∷ only Choice (IllegalChoice text choices)
+    ∷ faulty text plate
+    ∷ []
+
+-- 13: "a position from n up"
+abbrev pub startRows : (text plate : List ℕ) → ℕ → List Row
+startRows text plate position = misdrawn text ∷ malformed text plate ∷ only Position (count text ≤ position) ∷ faulty text plate ∷ []
+
+-- "A report tests 11 but not 14. Its 13 covers the run's own position as well"; 16: "a disturbance with 99,999 or more seen"
+abbrev pub reportRows : Run → (text plate : List ℕ) → ℕ → List Row
+reportRows run text plate to =
+    misdrawn text
+    ∷ malformed text plate
+    ∷ only Position ((count text ≤ run .position) ⊎ (count text ≤ to))
+    ∷ only Move (MoveIs run text plate to Neither)
+    ∷ only Seen (MoveIs run text plate to Disturbance × (99999 ≤ run .seen))
+    ∷ []
+
+-- The demand
+
+-- a job's answer is a refusal exactly by its rows; an answer that is none is given only where no condition holds; and after a refusal
+-- what was lent is as it was
+pub record Exact {A : Type 0} (answer : A) (refused : Refusal → A) (rows : List Row) (stays : Type 0) : Type 0 where
+  pub exactly : (x : Refusal) → (answer ≡ refused x) ↔ RefusedBy rows x
+  pub taken : ((x : Refusal) → answer ≡ refused x → ⊥) → Clear rows
+  pub unchanged : (x : Refusal) → answer ≡ refused x → stays
+
+-- of every job, by what it ensures; Checking, Comparing and a start are lent nothing that they could change
+pub record Demand1 : Type 0 where
+  pub valuing : {text values values′ choices choices′ steps steps′ : List ℕ} {r : Valued} → ValuedIs text values values′ choices choices′ steps steps′ r
+      → Exact r ValuingRefused (valuingRows text values choices steps) ((values′ ≡ values) × (choices′ ≡ choices) × (steps′ ≡ steps))
+  pub writing : {text out out′ : List ℕ} {r : Written} → WrittenIs text out out′ r → Exact r WritingRefused (writingRows text out) (out′ ≡ out)
+  pub reading : {text plate values values′ choices choices′ steps steps′ : List ℕ} {r : Reading} → ReadingIs text plate values values′ choices choices′ steps steps′ r
+      → Exact r ReadingRefused (readingRows text plate values choices steps) ((values′ ≡ values) × (choices′ ≡ choices) × (steps′ ≡ steps))
+  pub checking : {text plate : List ℕ} {r : Checked} → r ≡ checked text plate → Exact r CheckingRefused (checkingRows text plate) (Unit {0})
+  pub weighing : {text choices worths worths′ : List ℕ} {r : Weighed} → WeighedIs text choices worths worths′ r
+      → Exact r WeighingRefused (weighingRows text choices worths) (worths′ ≡ worths)
+  pub comparing : {text plate choices : List ℕ} {r : Compared} → ComparedIs text plate choices r → Exact r ComparingRefused (comparingRows text plate choices) (Unit {0})
+  pub start : {text plate : List ℕ} {position : ℕ} {r : Started} → r ≡ started text plate position → Exact r StartRefused (startRows text plate position) (Unit {0})
+  -- "the run comes back unchanged"
+  pub report : {run : Run} {text plate : List ℕ} {to : ℕ} {r : Reported} → r ≡ reported run text plate to
+      → Exact (r .answer) ReportRefused (reportRows run text plate to) (r .run ≡ run)
+  -- "no misdrawn sheet is taken": where any of 1 to 9 applies to a chart, one of them is the first, so the first row above refuses it
+  pub misdrawn-is-refused : (text : List ℕ) (s : Misdrawn) → Applies text s → (r : Misdrawn) × First text r

@@ -1,0 +1,382 @@
+-- The first demand's proof. A job's tests stand in the order of its rows: each test tells whether its row's condition holds, where it does
+-- the answer is the row's refusal, and where it does not the rows after it decide. So one law for a row, and each job its rows in turn.
+use Prim.Native.Nat.{ℕ, _+_, _*_, _≤_, _<_}
+use native.Mathlib.Omega.{arith}
+use mathlib.Core.Path.{_≡_, refl, sym, ap, subst, _∙_}
+use mathlib.Core.Logic.{_⊎_, inl, inr, ⊎-elim, _↔_}
+use mathlib.Core.Bool.{Bool, true, false, _&&_}
+use mathlib.Core.List.{List, [], _∷_}
+use lib.ListN.{length}
+use lib.Dec.{leb, ltb, eqb, T}
+use borrow.Author.Tests.{leb-true, leb-false, ltb-true, ltb-false}
+use Rattle.rows.specs.Numbers.{rowValue}
+use Rattle.rows.specs.declared.Chart.{Chart}
+use Rattle.search.specs.First.{FirstAt, AllPass, first-or-none, first-none, first-at}
+use Rattle.game.specs.Value.{Value}
+use Rattle.game.specs.Arena.{Arena, size, ownerAt}
+use Rattle.game.specs.Fault.{legalAs}
+use Rattle.game.specs.ConditionTests.{legal-test}
+use Rattle.refusal.specs.declared.Misdrawn.{Misdrawn}
+use Rattle.refusal.specs.declared.Refusal.{Refusal}
+use Rattle.refusal.specs.declared.Refusal.the-variants.{Chart as OfChart, Plate, Position, Fault, Move, Seen}
+use Rattle.chart.specs.Meaning.{arenaOf}
+use Rattle.chart.specs.Examined.{examined}
+use Rattle.chart.specs.Exact.{refused-exactly, accepted-exactly}
+use Rattle.chart.specs.Accepted.{accepted-size}
+use Rattle.chart.specs.Refusals.{Applies, First}
+use Rattle.chart.specs.declared.Examination.{Examination}
+use Rattle.chart.specs.declared.Examination.the-variants.{Accepted as Taken, Refused as Turned}
+use Rattle.plate.specs.Form.{BadAt}
+use Rattle.plate.specs.Formed.{formOf}
+use Rattle.plate.specs.Exact.{form-exact, bad-line-exact}
+use Rattle.plate.specs.Read.{headerIn, valueIn, choiceIn, stepIn}
+use Rattle.plate.specs.declared.Form.{Form}
+use Rattle.plate.specs.declared.Form.the-variants.{Good, Bad}
+use Rattle.verdict.specs.Verdict.{FirstFaultIs}
+use Rattle.verdict.specs.Exact.{first-fault-exactly}
+use Rattle.verdict.specs.declared.Verdict.{Verdict}
+use Rattle.verdict.specs.declared.Verdict.the-variants.{Sound, Fault as FaultAt}
+use Rattle.checking.specs.Checking.{plateVerdict, checked}
+use Rattle.checking.specs.AnswersExact.{answer-exactly, verdict-means}
+use Rattle.checking.specs.declared.Checked.the-variants.{Accepted, Refused as CheckingRefused}
+use Rattle.valuing.specs.Valuing.{valued, valuedBy}
+use Rattle.valuing.specs.declared.Valued.the-variants.{Refused as ValuingRefused}
+use Rattle.writing.specs.Writing.{written, writtenBy}
+use Rattle.writing.specs.declared.Written.the-variants.{Refused as WritingRefused}
+use Rattle.reading.specs.Reading.{reading, readBy, answerTo}
+use Rattle.reading.specs.declared.Reading.the-variants.{Refused as ReadingRefused}
+use Rattle.weighing.specs.Weighing.{legalRow, weighed, weighedBy}
+use Rattle.weighing.specs.WeighingLaws.{legal-row-sound, legal-row-complete}
+use Rattle.weighing.specs.declared.Weighed.the-variants.{Done, Refused as WeighingRefused}
+use Rattle.comparing.specs.Comparing.{valueNumber, worthNumber, firstDifference, compared}
+use Rattle.comparing.specs.Order.{first-the-chart, then-ten, then-eleven, then-twelve, then-fourteen, then-the-rows}
+use Rattle.comparing.specs.declared.Compared.the-variants.{Agree, Differ, Refused as ComparingRefused}
+use Rattle.moves.specs.Moves.{moveKind}
+use Rattle.moves.specs.MoveLaws.{kind-exactly}
+use Rattle.moves.specs.declared.Kind.{Kind}
+use Rattle.moves.specs.declared.Kind.the-variants.{Meant, Disturbance, Neither}
+use Rattle.run.specs.Running.{adviceAt, begunAt, moved, started, reported}
+use Rattle.run.specs.Answers.{Readable, Moves, ReportIs, ReportRefused as ReportRefusedIs}
+use Rattle.run.specs.AnswersExact.{start-exactly, report-exactly}
+use Rattle.run.specs.declared.Run.{Run}
+use Rattle.run.specs.declared.Advice.{Advice}
+use Rattle.run.specs.declared.Started.the-variants.{Refused as StartRefused}
+use Rattle.run.specs.declared.Reported.{Reported}
+use Rattle.run.specs.declared.Answer.{Answer}
+use Rattle.run.specs.declared.Answer.the-variants.{Taken as Went, Refused as ReportRefused}
+use Rattle.demands.specs.Demand1.{Row, RefusedBy, Clear, only, misdrawn, count, malformed, IllegalChoice, faulty, MoveIs, valuingRows, writingRows, readingRows, checkingRows, weighingRows, comparingRows, startRows, reportRows, Exact, Demand1}
+
+-- a job's answer by its rows, with nothing lent
+abbrev Settled : {A : Type 0} → A → (Refusal → A) → List Row → Type 0
+Settled answer refused rows = Exact answer refused rows (Unit {0})
+
+-- A test that passes just where the condition does not hold
+
+abbrev Tests : Bool → Type 0 → Type 0
+Tests b P = (b ≡ true → P → ⊥) × (b ≡ false → P)
+
+untrue : {A : Type 0} → true ≡ false → A
+untrue e = let z : _≡_ {A = ℕ} 0 1 = cc in absurd (omega arith)
+
+both-test : {P Q : Type 0} (b c : Bool) → Tests b P → Tests c Q → Tests (b && c) (P ⊎ Q)
+both-test true c p q = (λ e. ⊎-elim (p .0 refl) (q .0 e), λ e. inr (q .1 e))
+both-test false c p q = (λ e. untrue (sym e), λ e. inl (p .1 refl))
+
+short-test : {n needed : ℕ} (lent : List ℕ) → n ≡ needed → Tests (leb needed (length lent)) (length lent < n)
+short-test {n} {needed} lent same = (λ e l. omega (arith, leb-true needed (length lent) e), λ e. omega (arith, leb-false needed (length lent) e))
+
+three-short : {n needed : ℕ} → n ≡ needed → (values choices steps : List ℕ)
+    → Tests (leb needed (length values) && (leb needed (length choices) && leb needed (length steps))) ((length values < n) ⊎ ((length choices < n) ⊎ (length steps < n)))
+three-short same values choices steps = both-test _ _ (short-test values same) (both-test _ _ (short-test choices same) (short-test steps same))
+
+inside-test : (v n : ℕ) → Tests (ltb v n) (n ≤ v)
+inside-test v n = (λ e l. omega (arith, ltb-true v n e), λ e. ltb-false v n e)
+
+both-true : (b c : Bool) → (b && c) ≡ true → (b ≡ true) × (c ≡ true)
+both-true true c e = (refl, e)
+both-true false c e = untrue (sym e)
+
+-- One row
+
+module _ {A : Type 0} {answer : A} {refused : Refusal → A} (injective : (x y : Refusal) → refused x ≡ refused y → x ≡ y) where
+  row-holds : {row : Row} {rest : List Row} → ((y : Refusal) → row y → answer ≡ refused y) → (y : Refusal) → row y → Settled answer refused (row ∷ rest)
+  unfolding RefusedBy Clear
+  row-holds {row} {rest} turns y h = record { exactly = λ x. (λ e. inl (subst row (injective y x (sym (turns y h) ∙ e)) h), from x); taken = λ none. absurd (none y (turns y h)); unchanged = λ x e. tt }
+    where
+      from : (x : Refusal) → row x ⊎ (((y : Refusal) → row y → ⊥) × RefusedBy rest x) → answer ≡ refused x
+      from x (inl k) = turns x k
+      from x (inr k) = absurd (k .0 y h)
+
+  row-fails : {row : Row} {rest : List Row} → ((y : Refusal) → row y → ⊥) → Settled answer refused rest → Settled answer refused (row ∷ rest)
+  unfolding RefusedBy Clear
+  row-fails {row} {rest} none is = record { exactly = λ x. (λ e. inr (none, is .exactly x .0 e), from x); taken = λ free. (none, is .taken free); unchanged = λ x e. tt }
+    where
+      from : (x : Refusal) → row x ⊎ (((y : Refusal) → row y → ⊥) × RefusedBy rest x) → answer ≡ refused x
+      from x (inl k) = absurd (none x k)
+      from x (inr k) = is .exactly x .1 (k .1)
+
+  no-rows : ((x : Refusal) → answer ≡ refused x → ⊥) → Settled answer refused []
+  unfolding RefusedBy Clear
+  no-rows none = record { exactly = λ x. (none x, λ h. absurd h); taken = λ n. tt; unchanged = λ x e. tt }
+
+  -- a row of one refusal, by a test that passes just where its condition does not hold
+  test-row : {y : Refusal} {P : Type 0} {rest : List Row} (b : Bool) → Tests b P → (b ≡ false → answer ≡ refused y) → (b ≡ true → Settled answer refused rest)
+      → Settled answer refused (only y P ∷ rest)
+  test-row {y} true t turns rest = row-fails (λ z h. t .0 refl (h .1)) (rest refl)
+  test-row {y} false t turns rest = row-holds (λ z h. turns refl ∙ ap refused (sym (h .0))) y (refl, t .1 refl)
+
+  -- 1 to 9
+  chart-row : (text : List ℕ) {rest : List Row} → ((r : Misdrawn) → examined text ≡ Turned r → answer ≡ refused (OfChart r))
+      → ((chart : Chart) → examined text ≡ Taken chart → Settled answer refused rest) → Settled answer refused (misdrawn text ∷ rest)
+  chart-row text {rest} turns takes = go (examined text) refl
+    where
+      go : (x : Examination) → examined text ≡ x → Settled answer refused (misdrawn text ∷ rest)
+      go (Turned r) e = row-holds (λ y h. turns (h .0) (refused-exactly text (h .0) .1 (h .2)) ∙ ap refused (sym (h .1))) (OfChart r) (r, refl, refused-exactly text r .0 e)
+      go (Taken chart) e = row-fails (λ y h. apart (refused-exactly text (h .0) .1 (h .2)) e) (takes chart e)
+        where
+          apart : {r : Misdrawn} → examined text ≡ Turned r → examined text ≡ Taken chart → ⊥
+          apart p q = let z : _≡_ {A = ℕ} 0 1 = cc in omega arith
+
+  module _ (text plate : List ℕ) (chart : Chart) (taken : examined text ≡ Taken chart) {rest : List Row} where
+    -- 11
+    form-row : ((line : ℕ) → formOf (chart .positions) plate ≡ Bad line → answer ≡ refused (Plate line))
+        → (formOf (chart .positions) plate ≡ Good → Settled answer refused rest) → Settled answer refused (malformed text plate ∷ rest)
+    form-row turns takes = go (formOf (chart .positions) plate) refl
+      where
+        bad : {line : ℕ} → BadAt (count text) plate line → formOf (chart .positions) plate ≡ Bad line
+        bad {line} w = bad-line-exact (chart .positions) line plate .1 (subst (λ (n : ℕ). BadAt n plate line) (accepted-size text chart taken) w)
+
+        go : (f : Form) → formOf (chart .positions) plate ≡ f → Settled answer refused (malformed text plate ∷ rest)
+        go (Bad line) e =
+            row-holds (λ y h. turns (h .0) (bad (h .2)) ∙ ap refused (sym (h .1))) (Plate line)
+            (line, refl, subst (λ (n : ℕ). BadAt n plate line) (sym (accepted-size text chart taken)) (bad-line-exact (chart .positions) line plate .0 e))
+        go Good e = row-fails (λ y h. apart (bad (h .2)) e) (takes e)
+          where
+            apart : {line : ℕ} → formOf (chart .positions) plate ≡ Bad line → formOf (chart .positions) plate ≡ Good → ⊥
+            apart p q = let z : _≡_ {A = ℕ} 0 1 = cc in omega arith
+
+  -- 14
+  fault-row : (text plate : List ℕ) {rest : List Row} → ((v c : ℕ) → plateVerdict (arenaOf text) plate ≡ FaultAt v c → answer ≡ refused (Fault v c))
+      → (plateVerdict (arenaOf text) plate ≡ Sound → Settled answer refused rest) → Settled answer refused (faulty text plate ∷ rest)
+  fault-row text plate {rest} turns takes = go (plateVerdict (arenaOf text) plate) refl
+    where
+      first : (v c : ℕ) → (plateVerdict (arenaOf text) plate ≡ FaultAt v c) ↔ FirstFaultIs (arenaOf text) (valueIn plate) (choiceIn plate) (stepIn plate) (headerIn plate) v c
+      first v c = first-fault-exactly (arenaOf text) (valueIn plate) (choiceIn plate) (stepIn plate) (headerIn plate) v c
+
+      go : (r : Verdict) → plateVerdict (arenaOf text) plate ≡ r → Settled answer refused (faulty text plate ∷ rest)
+      go (FaultAt v c) e = row-holds (λ y h. turns (h .0) (h .1) (first (h .0) (h .1) .1 (h .3)) ∙ ap refused (sym (h .2))) (Fault v c) (v, c, refl, first v c .0 e)
+      go Sound e = row-fails (λ y h. apart (first (h .0) (h .1) .1 (h .3)) e) (takes e)
+        where
+          apart : {v c : ℕ} → plateVerdict (arenaOf text) plate ≡ FaultAt v c → plateVerdict (arenaOf text) plate ≡ Sound → ⊥
+          apart p q = let z : _≡_ {A = ℕ} 0 1 = cc in omega arith
+
+-- The jobs
+
+with-lent : {A : Type 0} {answer r : A} {refused : Refusal → A} {rows : List Row} {stays : Type 0} → r ≡ answer → Settled answer refused rows
+    → ((x : Refusal) → r ≡ refused x → stays) → Exact r refused rows stays
+with-lent {refused = refused} {rows = rows} e is unchanged =
+    record {
+      exactly = λ x. (λ q. is .exactly x .0 (sym e ∙ q), λ h. e ∙ is .exactly x .1 h);
+      taken = λ none. is .taken (λ x q. none x (e ∙ q));
+      unchanged = unchanged;
+    }
+
+valuing-settled : (text values choices steps : List ℕ)
+    → Settled (valued text (length values) (length choices) (length steps)) ValuingRefused (valuingRows text values choices steps)
+unfolding valued valuedBy
+valuing-settled text values choices steps =
+    chart-row (λ x y e. cc) text (λ r e. rw e)
+    (λ chart e.
+    let n = accepted-size text chart e in
+    test-row (λ x y e. cc) (leb (chart .positions) (length values) && (leb (chart .positions) (length choices) && leb (chart .positions) (length steps)))
+    (three-short n values choices steps) (λ b. rw (e, b)) (λ b. no-rows (λ x y e. cc) (λ x q. let z : _≡_ {A = ℕ} 0 1 = cc in omega arith)))
+
+writing-settled : (text out : List ℕ) → Settled (written text (length out)) WritingRefused (writingRows text out)
+unfolding written writtenBy
+writing-settled text out =
+    chart-row (λ x y e. cc) text (λ r e. rw e)
+    (λ chart e.
+    let n = accepted-size text chart e in
+    test-row (λ x y e. cc) (leb ((chart .positions + 1) * 22) (length out)) (short-test out (omega arith)) (λ b. rw (e, b))
+    (λ b. no-rows (λ x y e. cc) (λ x q. let z : _≡_ {A = ℕ} 0 1 = cc in omega arith)))
+
+reading-settled : (text plate values choices steps : List ℕ)
+    → Settled (reading text plate (length values) (length choices) (length steps)) ReadingRefused (readingRows text plate values choices steps)
+unfolding reading readBy answerTo
+reading-settled text plate values choices steps =
+    chart-row (λ x y e. cc) text (λ r e. rw e)
+    (λ chart e.
+    let n = accepted-size text chart e in
+    test-row (λ x y e. cc) (leb (chart .positions) (length values) && (leb (chart .positions) (length choices) && leb (chart .positions) (length steps)))
+    (three-short n values choices steps) (λ b. rw (e, b))
+    (λ b.
+    form-row (λ x y e. cc) text plate chart e (λ line f. rw (e, b, f))
+    (λ f. no-rows (λ x y e. cc) (λ x q. let z : _≡_ {A = ℕ} 0 1 = cc in omega arith))))
+
+checking-settled : (text plate : List ℕ) → Settled (checked text plate) CheckingRefused (checkingRows text plate)
+checking-settled text plate =
+    let answer = answer-exactly text plate in
+    chart-row (λ x y e. cc) text (λ r e. answer (CheckingRefused (OfChart r)) .1 e)
+    (λ chart e.
+    form-row (λ x y e. cc) text plate chart e (λ line f. answer (CheckingRefused (Plate line)) .1 (record { chart = chart; taken = e; bad = bad-line-exact (chart .positions) line plate .0 f }))
+    (λ f.
+    fault-row (λ x y e. cc) text plate
+    (λ v c g. answer (CheckingRefused (Fault v c)) .1 (verdict-means text plate chart e (form-exact (chart .positions) plate .0 f) (FaultAt v c) g))
+    (λ g.
+    let sound = answer Accepted .1 (verdict-means text plate chart e (form-exact (chart .positions) plate .0 f) Sound g) in
+    no-rows (λ x y e. cc) (λ x q. let z : _≡_ {A = ℕ} 0 1 = cc in omega arith))))
+
+-- 12: the test of the choices tells whether one is illegal
+choice-test : (text choices : List ℕ) → Tests (legalRow (arenaOf text) (rowValue choices) (size (arenaOf text))) (IllegalChoice text choices)
+choice-test text choices = (λ e h. h .2 (legal-row-sound a choice e (h .0) (h .1)), λ e. ⊎-elim (legal e) illegal (first-or-none good (size a) 0))
+  where
+    a : Arena
+    a = arenaOf text
+
+    choice : ℕ → Value
+    choice = rowValue choices
+
+    good : ℕ → Bool
+    good v = legalAs a choice choice choice (ownerAt a v) v
+
+    legal : legalRow a choice (size a) ≡ false → AllPass good (size a) 0 → IllegalChoice text choices
+    legal e all =
+        untrue
+        (sym (legal-row-complete a choice (λ v l. legal-test a choice choice choice (ownerAt a v) v .0 (subst T (sym (all v (omega arith) (omega arith))) tt))) ∙ e)
+
+    illegal : ((v : ℕ) × FirstAt good (size a) 0 v) → IllegalChoice text choices
+    illegal (v, first) = (v, omega (arith, first .high), λ is. subst T (first .fails) (legal-test a choice choice choice (ownerAt a v) v .1 is))
+
+weighing-settled : (text choices worths : List ℕ) → Settled (weighed text choices (length worths)) WeighingRefused (weighingRows text choices worths)
+unfolding weighed weighedBy
+weighing-settled text choices worths =
+    chart-row (λ x y e. cc) text (λ r e. rw e)
+    (λ chart e.
+    let n = accepted-size text chart e in
+    test-row (λ x y e. cc) (leb (chart .positions) (length choices) && leb (chart .positions) (length worths))
+    (both-test _ _ (short-test choices n) (short-test worths n)) (λ b. rw (e, b))
+    (λ b.
+    test-row (λ x y e. cc) (legalRow (arenaOf text) (rowValue choices) (size (arenaOf text))) (choice-test text choices) (λ c. rw (e, b, c))
+    (λ c. no-rows (λ x y e. cc) (λ x q. let z : Done ≡ WeighingRefused x = sym (rw (e, b, c)) ∙ q in let w : _≡_ {A = ℕ} 0 1 = cc in omega arith))))
+
+comparing-settled : (text plate choices : List ℕ) → Settled (compared text plate choices) ComparingRefused (comparingRows text plate choices)
+comparing-settled text plate choices =
+    chart-row (λ x y e. cc) text (first-the-chart text plate choices)
+    (λ chart e.
+    let n = accepted-size text chart e in
+    test-row (λ x y e. cc) (leb (chart .positions) (length choices)) (short-test choices n) (λ b. then-ten text plate choices chart e (leb-false _ _ b))
+    (λ b.
+    let enough = leb-true (chart .positions) (length choices) b in
+    form-row (λ x y e. cc) text plate chart e (then-eleven text plate choices chart e enough)
+    (λ f.
+    test-row (λ x y e. cc) (legalRow (arenaOf text) (rowValue choices) (size (arenaOf text))) (choice-test text choices) (then-twelve text plate choices chart e enough f)
+    (λ c.
+    fault-row (λ x y e. cc) text plate (then-fourteen text plate choices chart e enough f c)
+    (λ g. no-rows (λ x y e. cc) (λ x q. no-difference-refused (valueNumber plate) (worthNumber (arenaOf text) choices) (size (arenaOf text)) x (sym (then-the-rows text plate choices chart e enough f c g) ∙ q)))))))
+  where
+    no-difference-refused : (f g : ℕ → ℕ) (n : ℕ) (x : Refusal) → firstDifference f g n ≡ ComparingRefused x → ⊥
+    no-difference-refused f g n x e =
+        ⊎-elim
+        (λ all. let q = sym (first-none _ (λ v. Differ v (f v) (g v)) Agree n 0 all) ∙ e in let z : _≡_ {A = ℕ} 0 1 = cc in omega arith)
+        (λ w. let q = sym (first-at _ (λ v. Differ v (f v) (g v)) Agree n 0 (w .0) (w .1)) ∙ e in let z : _≡_ {A = ℕ} 0 1 = cc in omega arith)
+        (first-or-none (λ v. eqb (f v) (g v)) n 0)
+
+start-settled : (text plate : List ℕ) (position : ℕ) → Settled (started text plate position) StartRefused (startRows text plate position)
+start-settled text plate position =
+    let answer = start-exactly text plate position in
+    let n = size (arenaOf text) in
+    chart-row (λ x y e. cc) text (λ r e. answer (StartRefused (OfChart r)) .1 e)
+    (λ chart e.
+    form-row (λ x y e. cc) text plate chart e (λ line f. answer (StartRefused (Plate line)) .1 (record { chart = chart; taken = e; bad = bad-line-exact (chart .positions) line plate .0 f }))
+    (λ f.
+    let form = form-exact (chart .positions) plate .0 f in
+    test-row (λ x y e. cc) (ltb position n) (inside-test position n) (λ b. answer (StartRefused Position) .1 (record { chart = chart; taken = e; form = form }, ltb-false position n b))
+    (λ b.
+    fault-row (λ x y e. cc) text plate (λ v c g. answer (StartRefused (Fault v c)) .1 (verdict-means text plate chart e form (FaultAt v c) g, ltb-true position n b))
+    (λ g.
+    let begun = answer (begunAt plate position) .1 (verdict-means text plate chart e form Sound g, ltb-true position n b, refl, refl) in
+    no-rows (λ x y e. cc) (λ x q. let z : _≡_ {A = ℕ} 0 1 = cc in omega arith)))))
+
+module _ (run : Run) (text plate : List ℕ) (to : ℕ) where
+  abbrev answer : Answer
+  answer = reported run text plate to .answer
+
+  -- the answer, from the condition of a report's answers
+  refused-by : (x : Refusal) → ReportRefusedIs run text plate to x → answer ≡ ReportRefused x
+  refused-by x h = ap (λ (r : Reported). r .answer) (report-exactly run text plate to run (ReportRefused x) .1 (h, refl))
+
+  taken-by : (after : Run) (advice : Advice) → ReportIs run text plate to after (Went advice) → (x : Refusal) → answer ≡ ReportRefused x → ⊥
+  taken-by after advice h x q =
+      let e : answer ≡ Went advice = ap (λ (r : Reported). r .answer) (report-exactly run text plate to after (Went advice) .1 h) in
+      let z : _≡_ {A = ℕ} 0 1 = cc in
+      omega arith
+
+  abbrev kind : Kind
+  kind = moveKind (arenaOf text) (choiceIn plate (run .position)) (run .position) to
+
+  says : (k : Kind) → (kind ≡ k) ↔ MoveIs run text plate to k
+  says k = kind-exactly (arenaOf text) (choiceIn plate (run .position)) (run .position) to k
+
+  -- 15 and 16, of a move within the chart
+  move-rows : ((k : Kind) → kind ≡ k → Moves run text plate to k)
+      → Settled answer ReportRefused (only Move (MoveIs run text plate to Neither) ∷ only Seen (MoveIs run text plate to Disturbance × (99999 ≤ run .seen)) ∷ [])
+  move-rows moves = go kind refl
+    where
+      apart : {j k : Kind} → kind ≡ j → kind ≡ k → (j ≡ k → ⊥) → ⊥
+      apart p q differ = differ (sym p ∙ q)
+
+      go : (k : Kind) → kind ≡ k → Settled answer ReportRefused (only Move (MoveIs run text plate to Neither) ∷ only Seen (MoveIs run text plate to Disturbance × (99999 ≤ run .seen)) ∷ [])
+      go Neither e = row-holds (λ x y e. cc) (λ y h. refused-by Move (moves Neither e) ∙ ap ReportRefused (sym (h .0))) Move (refl, says Neither .0 e)
+      go Disturbance e =
+          row-fails (λ x y e. cc) (λ y h. apart e (says Neither .1 (h .1)) (λ q. let z : _≡_ {A = ℕ} 0 1 = cc in omega arith))
+          (test-row (λ x y e. cc) (ltb (run .seen) 99999) (λ b h. omega (arith, ltb-true (run .seen) 99999 b, h .1), λ b. (says Disturbance .0 e, ltb-false (run .seen) 99999 b))
+          (λ b. refused-by Seen (moves Disturbance e, ltb-false (run .seen) 99999 b))
+          (λ b. no-rows (λ x y e. cc) (taken-by (moved run to (run .seen + 1)) (adviceAt plate to) (inr (moves Disturbance e, ltb-true (run .seen) 99999 b, refl), refl))))
+      go Meant e =
+          row-fails (λ x y e. cc) (λ y h. apart e (says Neither .1 (h .1)) (λ q. let z : _≡_ {A = ℕ} 0 1 = cc in omega arith))
+          (row-fails (λ x y e. cc) (λ y h. apart e (says Disturbance .1 (h .1 .0)) (λ q. let z : _≡_ {A = ℕ} 0 1 = cc in omega arith))
+          (no-rows (λ x y e. cc) (taken-by (moved run to (run .seen)) (adviceAt plate to) (inl (moves Meant e, refl), refl))))
+
+  report-settled : Settled answer ReportRefused (reportRows run text plate to)
+  report-settled =
+      let n = size (arenaOf text) in
+      chart-row (λ x y e. cc) text (λ r e. refused-by (OfChart r) e)
+      (λ chart e.
+      form-row (λ x y e. cc) text plate chart e (λ line f. refused-by (Plate line) (record { chart = chart; taken = e; bad = bad-line-exact (chart .positions) line plate .0 f }))
+      (λ f.
+      let readable : Readable text plate = record { chart = chart; taken = e; form = form-exact (chart .positions) plate .0 f } in
+      let test = both-test (ltb (run .position) n) (ltb to n) (inside-test (run .position) n) (inside-test to n) in
+      test-row (λ x y e. cc) (ltb (run .position) n && ltb to n) test (λ b. refused-by Position (readable, test .1 b))
+      (λ b.
+      let here = ltb-true (run .position) n (both-true (ltb (run .position) n) (ltb to n) b .0) in
+      let there = ltb-true to n (both-true (ltb (run .position) n) (ltb to n) b .1) in
+      move-rows (λ k g. record { readable = readable; own = here; inside = there; kind = g }))))
+
+  -- "the run comes back unchanged"
+  report-unmoved : (x : Refusal) → answer ≡ ReportRefused x → reported run text plate to .run ≡ run
+  report-unmoved x q = subst (ReportIs run text plate to (reported run text plate to .run)) q (report-exactly run text plate to (reported run text plate to .run) answer .0 refl) .1
+
+-- The demand
+
+pub demand-1 : Demand1
+demand-1 =
+    record {
+      valuing = λ {text} {values} {values′} {choices} {choices′} {steps} is. with-lent (is .answer) (valuing-settled text values choices steps) (is .refused);
+      writing = λ {text} {out} is. with-lent (is .answer) (writing-settled text out) (is .refused);
+      reading = λ {text} {plate} {values} {values′} {choices} {choices′} {steps} is. with-lent (is .answer) (reading-settled text plate values choices steps) (is .refused);
+      checking = λ {text} {plate} e. with-lent e (checking-settled text plate) (λ x q. tt);
+      weighing = λ {text} {choices} {worths} is. with-lent (is .answer) (weighing-settled text choices worths) (is .refused);
+      comparing = λ {text} {plate} {choices} is. with-lent (is .answer) (comparing-settled text plate choices) (λ x q. tt);
+      start = λ {text} {plate} {position} e. with-lent e (start-settled text plate position) (λ x q. tt);
+      report = λ {run} {text} {plate} {to} e.
+          with-lent (ap (λ (r : Reported). r .answer) e) (report-settled run text plate to)
+          (λ x q. ap (λ (r : Reported). r .run) e ∙ report-unmoved run text plate to x (sym (ap (λ (r : Reported). r .answer) e) ∙ q));
+      misdrawn-is-refused = misdrawn-first;
+    }
+  where
+    misdrawn-first : (text : List ℕ) (s : Misdrawn) → Applies text s → (r : Misdrawn) × First text r
+    misdrawn-first text s applies = go (examined text) refl
+      where
+        go : (x : Examination) → examined text ≡ x → (r : Misdrawn) × First text r
+        go (Turned r) e = (r, refused-exactly text r .0 e)
+        go (Taken chart) e = absurd (accepted-exactly text chart .0 e .0 s applies)
