@@ -1,16 +1,36 @@
 /* Dushemqa: lane charts and their plates, from C.
  *
+ * A chart names the positions of a bowling lane's machine, who chooses the next move there, the moves that are meant, the
+ * disturbances that may take their place, and the unsafe positions. Its plate says how many disturbances it takes to bring the
+ * machine from each position to an unsafe one, against every controller that could be built, and which move to choose there.
+ *
  * Every function is proved, for all bytes and numbers that may be lent to it, to answer what the library's job of that name
  * answers, to end, and to touch nothing but what is lent. What a caller owes:
- *   - a pointer that is not null and points to as many readable elements as its length says, also where that is 0 (any valid
- *     address serves then); a pointer without `const` points to elements that may be written;
+ *   - a pointer that is not null and points to as many readable elements as its length says; a pointer without `const`
+ *     points to elements that may be written. For nothing, with length 0, any valid address serves, as that of "": the
+ *     proofs speak of memory that is there, and null is no such place;
  *   - memory that is lent for writing overlaps nothing else that is lent to the same call;
  *   - nothing else writes the lent memory during the call.
- * Nothing is kept between calls, so calls may run side by side. A job uses up to 512 KiB of stack (docs/TIMINGS.md has what
- * each was seen to use).
+ * Nothing is kept between calls, so calls may run side by side. A call wants up to 96 KiB of stack.
  *
- * A chart is text in lines of 12 bytes, a plate in lines of 22. In rows of numbers a position's entry stands at its number,
- * and DUSHEMQA_NONE stands for "ever" and for "-".
+ * A chart is text in lines of 12 bytes: a letter, two fields of five bytes, a line feed. A field is a number, right-justified
+ * after spaces, with no leading zero.
+ *     H positions moves   the first line: how many there are
+ *     O position mark     a position where the console chooses; L where the lane does. They are numbered from 0 in order, and
+ *                         the mark is 0 for safe, 1 for unsafe
+ *     M from to           a meant move; D a disturbance. They rise: by from, then M before D, then by to
+ * Disturbances leave O positions only, and each position has a meant move.
+ *
+ * A plate is text in lines of 22 bytes: a letter, four such fields, a line feed. A field may also read "-" or "ever".
+ *     P positions rounds highest evers   the first line: how many positions, how many different pairs of value and step, the
+ *                                        highest value that is a number ("-" if there is none), how many read "ever"
+ *     V position value choice step       a line for each position, in order. The value is the least number of disturbances by
+ *                                        which an unsafe position can be reached from there against the best controller,
+ *                                        "ever" if none can be reached; the choice is the meant target to choose at O, "-"
+ *                                        at L; the step orders positions of one value by how near ruin is, "-" at "ever"
+ * A plate is of the form if the first line's count is the chart's and each other number is within its bounds: rounds and evers 0
+ * to 512; highest, value and step 0 to 511; choice below the count of positions.
+ * In rows of numbers a position's entry stands at its number, and DUSHEMQA_NONE stands for "ever" and for "-".
  *
  * On a refusal everything that was lent is as it was, a run comes back as it was handed in, and all other numbers of the
  * answer are 0, save the position where a start began no run.
@@ -27,41 +47,53 @@ extern "C" {
 #endif
 
 /* The most positions and moves of a chart, and the bytes of the longest chart and the longest plate. */
-#define DUSHEMQA_POSITIONS 512
-#define DUSHEMQA_MOVES 4096
-#define DUSHEMQA_CHART_BYTES 55308
-#define DUSHEMQA_PLATE_BYTES 11286
+#define DUSHEMQA_MAX_POSITIONS 512
+#define DUSHEMQA_MAX_MOVES 4096
+#define DUSHEMQA_MAX_CHART_BYTES 55308
+#define DUSHEMQA_MAX_PLATE_BYTES 11286
 
 /* The bytes of a chart's line and of a plate's line. */
-#define DUSHEMQA_CHART_LINE 12
-#define DUSHEMQA_PLATE_LINE 22
+#define DUSHEMQA_CHART_LINE_BYTES 12
+#define DUSHEMQA_PLATE_LINE_BYTES 22
 
 /* "ever" as a value or a worth; "-" as a choice, a step or a highest value. */
 #define DUSHEMQA_NONE 65535
 
 /* The most disturbances that a run counts. */
-#define DUSHEMQA_COUNTED 99999
+#define DUSHEMQA_MAX_SEEN 99999
 
-/* The refusals' numbers. 1 to 9 are the chart's, and every job tests them first. */
+/* Why a job refused. 1 to 9 are the chart's: every job tests them first, 9 last, and answers the lowest line at fault. Of 10 to 16 a
+ * job answers the lowest number that applies; its own list says which it has. */
 enum dushemqa_number {
-    DUSHEMQA_TAKEN = 0,          /* nothing was refused */
-    DUSHEMQA_CHART_LENGTH = 1,   /* chart empty, over 55,308 bytes, or no multiple of 12 */
-    DUSHEMQA_CHART_FORM = 2,     /* letter not allowed at this line, bad field, or no line feed */
-    DUSHEMQA_CHART_LIMITS = 3,   /* count of positions or of moves outside its limits */
-    DUSHEMQA_CHART_COUNT = 4,    /* not as many lines as the first line says */
-    DUSHEMQA_CHART_SEQUENCE = 5, /* position out of sequence, or mark above 1 */
-    DUSHEMQA_CHART_ENDPOINT = 6, /* a move names a position that is not on the chart */
-    DUSHEMQA_CHART_DISTURBED = 7, /* a disturbance from a position of the lane's */
-    DUSHEMQA_CHART_ORDER = 8,    /* a move not above the one before */
-    DUSHEMQA_CHART_NO_MEANT = 9, /* a position without a meant move; the line of the lowest such position */
-    DUSHEMQA_SHORT = 10,         /* a lent buffer or row too short */
-    DUSHEMQA_PLATE_FORM = 11,    /* plate's length not 22 times (positions + 1), or a line not of the plate's form */
-    DUSHEMQA_CHOICE = 12,        /* a choice that is no meant target at O, or not DUSHEMQA_NONE at L */
-    DUSHEMQA_POSITION = 13,      /* a position that is not on the chart */
-    DUSHEMQA_FAULT = 14,         /* checking finds a fault; its position and condition are given */
-    DUSHEMQA_MOVE = 15,          /* the reported move can't follow */
-    DUSHEMQA_COUNT = 16          /* a disturbance with DUSHEMQA_COUNTED or more seen */
+    DUSHEMQA_TAKEN = 0,             /* nothing was refused */
+    DUSHEMQA_REFUSED_LENGTH = 1,    /* chart empty, over 55,308 bytes, or no multiple of 12 */
+    DUSHEMQA_REFUSED_FORM = 2,      /* letter not allowed at this line, bad field, or no line feed */
+    DUSHEMQA_REFUSED_LIMITS = 3,    /* count of positions or of moves outside its limits */
+    DUSHEMQA_REFUSED_COUNT = 4,     /* not as many lines as the first line says */
+    DUSHEMQA_REFUSED_SEQUENCE = 5,  /* position out of sequence, or mark above 1 */
+    DUSHEMQA_REFUSED_ENDPOINT = 6,  /* a move names a position that is not on the chart */
+    DUSHEMQA_REFUSED_DISTURBED = 7, /* a disturbance from a position of the lane's */
+    DUSHEMQA_REFUSED_ORDER = 8,     /* a move not above the one before */
+    DUSHEMQA_REFUSED_NO_MEANT = 9,  /* a position without a meant move; the line of the lowest such position */
+    DUSHEMQA_REFUSED_SHORT = 10,    /* a lent buffer or row too short */
+    DUSHEMQA_REFUSED_PLATE = 11,    /* plate's length not 22 times (positions + 1), or a line not of the plate's form */
+    DUSHEMQA_REFUSED_CHOICE = 12,   /* a choice that is no meant target at O, or not DUSHEMQA_NONE at L */
+    DUSHEMQA_REFUSED_POSITION = 13, /* a position that is not on the chart */
+    DUSHEMQA_REFUSED_FAULT = 14,    /* checking finds a fault; its position and condition are given */
+    DUSHEMQA_REFUSED_MOVE = 15,     /* the reported move can't follow */
+    DUSHEMQA_REFUSED_SEEN = 16      /* a disturbance with DUSHEMQA_MAX_SEEN or more seen */
 };
+
+/* The conditions of a plate that dushemqa_check tests, at each position from 0 up:
+ *   1  An unsafe position has value 0.
+ *   2  The step is "-" exactly when the value is "ever".
+ *   3  The choice is a meant target at O, "-" at L.
+ *   4  Holding: at O the choice has at least this value, and each disturbance's target at least this value less one ("ever"
+ *      less one is "ever"). At L each meant target has at least this value.
+ *   5  Ruin, for a safe position whose value is a number: at O some disturbance's target has a smaller value, or all meant
+ *      targets are earlier; at L some meant target is earlier. Earlier means smaller value, or equal value and smaller step;
+ *      "-" is above each step.
+ *   6  The first line's numbers are those of the plate's lines; answered with the count of positions as the position. */
 
 /* Whether a job refused, and why. */
 typedef struct {
@@ -139,7 +171,7 @@ dushemqa_valued dushemqa_value(const uint8_t *chart, size_t chart_length,
 
 /* Writing: the plate of a chart.
  *   chart, chart_length  the chart's bytes
- *   plate, plate_length  a buffer for the plate; bytes past the plate's last line stay. DUSHEMQA_PLATE_BYTES always suffice
+ *   plate, plate_length  a buffer for the plate; bytes past the plate's last line stay. DUSHEMQA_MAX_PLATE_BYTES always suffice
  * Refusals: 1 to 9; 10 if the plate doesn't fit. */
 dushemqa_written dushemqa_write(const uint8_t *chart, size_t chart_length,
                                 uint8_t *plate, size_t plate_length);
@@ -193,8 +225,11 @@ dushemqa_step dushemqa_start(const uint8_t *chart, size_t chart_length,
                              const uint8_t *plate, size_t plate_length,
                              size_t position);
 
-/* Report: the machine went to a position. While the same two texts are lent, the value at the run's position plus the
- * disturbances seen is at least the value at its start. The plate's form is tested, and not again whether it is right.
+/* Report: the machine went to a position. At O the move counts as meant if it is the plate's choice and a meant target, else
+ * as a disturbance if a D line has it, else it is refused with 15; at L it counts as meant if it is a meant target, else it is
+ * refused with 15. A meant target at O that is not the plate's choice thus counts as a disturbance, or not at all. While the same
+ * two texts are lent, the value at the run's position plus the disturbances seen is at least the value at its start. The
+ * plate's form is tested, and not again whether it is right.
  *   run                  as the start or the last report handed it back
  *   chart, chart_length  the chart's bytes
  *   plate, plate_length  the plate's bytes

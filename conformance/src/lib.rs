@@ -9,5 +9,6 @@ pub mod parts;
 pub mod random;
 pub mod shapes;
 pub mod solver;
+pub mod stacks;
 pub mod tally;
 pub mod trial;

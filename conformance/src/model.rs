@@ -8,7 +8,7 @@ mod run;
 mod values;
 mod weigh;
 
-use crate::capi::{Compared, Reading, Refusal, Run, Step, FirstLine, Valued, Written};
+use crate::capi::{Compared, FirstLine, Reading, Refusal, Run, Step, Valued, Written};
 use crate::chart::Chart;
 use std::cell::OnceCell;
 
@@ -146,9 +146,11 @@ impl<'a> Subject<'a> {
 
     /// Start.
     pub fn start(&self, plate: &[u8], position: usize) -> Step {
-        self.chart()
-            .and_then(|chart| run::start(chart, plate, position))
-            .unwrap_or_else(|refusal| Step { refusal, run: Run::NONE, ..Step::default() })
+        self.chart().and_then(|chart| run::start(chart, plate, position)).unwrap_or_else(|refusal| Step {
+            refusal,
+            run: Run::NONE,
+            ..Step::default()
+        })
     }
 
     /// Report.

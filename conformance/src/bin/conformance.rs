@@ -1,8 +1,11 @@
 //! The test: the library, through its C interface, against the model. It ends with status 1 at the first mismatch, and
-//! also if a refusal or a condition was hardly ever seen. A number as the argument divides the counts of inputs, for a
+//! also if a refusal or a condition was hardly ever seen, or if a call wants more stack than the header says. A number as the argument divides the counts of inputs, for a
 //! quick look.
 
+use conformance::chart::{MOVES, POSITIONS};
 use conformance::parts::{controllers, damaged, drawn, examples, small, Share};
+use conformance::shapes::{blocks, lane_chain};
+use conformance::stacks::{stacks, MOST};
 use conformance::tally::Tally;
 use std::process::ExitCode;
 use std::thread;
@@ -20,13 +23,23 @@ fn main() -> ExitCode {
     note(&mut total, "4  damaged charts, plates, choices, runs and buffers", &shared(damaged::part, divisor));
     println!();
     total.print();
-    let missing = total.missing(divisor);
-    if missing.is_empty() {
-        println!("every answer and all that was lent is as the model has it");
+    let mut wrong = total.missing(divisor);
+    wrong.extend(deep_calls());
+    if wrong.is_empty() {
+        println!(
+            "every answer and all that was lent is as the model has it; no call wants more than {MOST} bytes of stack"
+        );
         return ExitCode::SUCCESS;
     }
-    missing.iter().for_each(|line| println!("{line}"));
+    wrong.iter().for_each(|line| println!("{line}"));
     ExitCode::FAILURE
+}
+
+/// The jobs that want more stack on a full chart than the header says.
+fn deep_calls() -> impl Iterator<Item = String> {
+    let charts = [lane_chain(POSITIONS, MOVES), blocks(POSITIONS, MOVES, 16)];
+    let deep = charts.into_iter().flat_map(|chart| stacks(&chart)).filter(|(_, bytes)| *bytes > MOST);
+    deep.map(|(job, bytes)| format!("{job} wants {bytes} bytes of stack"))
 }
 
 fn note(total: &mut Tally, name: &str, tally: &Tally) {

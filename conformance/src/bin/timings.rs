@@ -1,12 +1,13 @@
 //! The timings: the library, through its C interface, beside the fast solver in Rust, on the same inputs in one run.
 
-use conformance::capi::{self, Run};
+use conformance::capi;
 use conformance::chart::{Chart, Owner, Position, MOVES, POSITIONS};
 use conformance::measure::{stack, times};
 use conformance::model::Subject;
 use conformance::random::Random;
 use conformance::shapes::{blocks, console_chain, drawn, filled, lane_chain, Reach, Shape};
 use conformance::solver;
+use conformance::stacks::stacks;
 use std::hint::black_box;
 
 const JOBS: [&str; 4] = ["value", "write", "check", "weigh"];
@@ -73,6 +74,15 @@ fn both(job: usize, input: &Input) -> (f64, f64) {
     times(|| library(job, input, &mut one), || rust(job, input, &mut other))
 }
 
+/// Both programs on reading alone: Valuing reads the whole chart, and then refuses rows that are too short (10).
+fn reading_alone(chart: &[u8]) -> (f64, f64) {
+    let short = |number| assert_eq!(number, 10, "the chart is accepted, the rows are short");
+    times(
+        || short(capi::value(black_box(chart), &mut [], &mut [], &mut []).refusal.number),
+        || short(solver::value(black_box(chart), &mut [], &mut [], &mut []).refusal.number),
+    )
+}
+
 fn shaped(n: usize, moves: usize, shape: Shape) -> Chart {
     filled(drawn(&mut Random::new(7), n, shape), moves, |_, _, _| true)
 }
@@ -130,6 +140,17 @@ fn full_charts() {
     }
 }
 
+fn reading() {
+    println!("\nReading alone: Valuing with rows too short, refused once the chart is read. Microseconds a call.\n");
+    println!("{:<40}{:>10}{:>10}{:>8}", "chart", "library", "Rust", "ratio");
+    let even = Shape { lane: 30, hazards: 5, meant: 8, disturbances: 8, reach: Reach::Anywhere };
+    let small = [("32 positions, even mix", shaped(32, 256, even)), ("32 positions, chain", lane_chain(32, 256))];
+    for (name, chart) in kinds().into_iter().chain(small) {
+        let (library, rust) = reading_alone(&chart.text());
+        println!("{name:<40}{library:>10.2}{rust:>10.2}{:>8.2}", library / rust);
+    }
+}
+
 fn growth() {
     println!("\nGrowth with the chart: n positions and 8 n moves. Microseconds a call, library / Rust.\n");
     print!("{:<10}{:>6}", "chart", "n");
@@ -156,31 +177,13 @@ fn memory() {
     let (_, chart) = kinds().swap_remove(0);
     let input = &Input::new(&chart);
     let kib = |bytes: usize| format!("{:.1}", bytes as f64 / 1024.0);
-    for (job, title) in JOBS.iter().enumerate() {
-        let (mut one, mut other) = (Lent::new(), Lent::new());
-        let library = stack(|| library(job, input, &mut one));
-        let rust = stack(|| rust(job, input, &mut other));
-        println!("{title:<8}{:>10}{:>10}", kib(library), kib(rust));
+    for (title, library) in stacks(&chart) {
+        let rust = JOBS.iter().position(|job| *job == title).map(|job| {
+            let mut lent = Lent::new();
+            kib(stack(|| rust(job, input, &mut lent)))
+        });
+        println!("{title:<8}{:>10}{:>10}", kib(library), rust.unwrap_or_default());
     }
-    for (title, bytes) in other_jobs(input) {
-        println!("{title:<8}{:>10}{:>10}", kib(bytes), "");
-    }
-}
-
-/// The stack of the library's other jobs.
-fn other_jobs(input: &Input) -> [(&'static str, usize); 4] {
-    let mut lent = Lent::new();
-    let [values, choices, steps] = &mut lent.rows;
-    let (chart, plate) = (&input.chart, &input.plate);
-    let taken = |number| assert_eq!(number, 0, "nothing was refused");
-    let run = Run { position: 0, seen: 0, initial: 0 };
-    let to = usize::from(input.choices[0]);
-    [
-        ("read", stack(|| taken(capi::read(chart, plate, values, choices, steps).refusal.number))),
-        ("compare", stack(|| taken(capi::compare(chart, plate, &input.choices).refusal.number))),
-        ("start", stack(|| taken(capi::start(chart, plate, 0).refusal.number))),
-        ("report", stack(|| taken(capi::report(run, chart, plate, to).refusal.number))),
-    ]
 }
 
 fn main() {
@@ -188,6 +191,7 @@ fn main() {
     println!("Each call is a whole job from the chart's text. Medians of batches that take turns.");
     println!("What is lent is not cleared between calls: answers are written over the last ones.\n");
     full_charts();
+    reading();
     growth();
     memory();
 }

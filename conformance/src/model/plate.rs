@@ -1,7 +1,7 @@
 //! The plate's text, and back from a text to a plate, or to refusal 11 with its line.
 
 use super::{parse::number, refused_at};
-use crate::capi::{Refusal, FirstLine, NONE};
+use crate::capi::{FirstLine, Refusal, NONE};
 use crate::chart::push_number;
 
 const LINE: usize = 22;

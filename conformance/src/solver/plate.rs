@@ -2,7 +2,7 @@
 
 use super::board::Board;
 use super::{field, Row};
-use crate::capi::{Refusal, FirstLine, NONE};
+use crate::capi::{FirstLine, Refusal, NONE};
 use crate::chart::POSITIONS;
 
 pub const LINE: usize = 22;

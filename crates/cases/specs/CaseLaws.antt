@@ -8,7 +8,7 @@ use lib.ListN.{length}
 use lib.Dec.{ltb}
 use borrow.Author.Tests.{le-ltb, lt-ltb, ltb-false}
 use Rattle.field.specs.Text.{fieldAt}
-use Rattle.cases.specs.Cases.{after, afterField, caseAt, endAt, firstAt, lengthIn, noCase, secondAt, thirdAt, wholeCase}
+use Rattle.cases.specs.Cases.{after, caseAt, endAt, firstAt, lengthIn, noCase, secondAt, thirdAt, wholeCase}
 use Rattle.cases.specs.declared.Case.{Case}
 
 pub record Ordered (size : ℕ) (c : Case) : Type 0 where

@@ -53,7 +53,8 @@ meant-line text n (suc m) v h = go (meantIn text n m v) (eqb (letterAt text (n +
     go false true e f rest = (m, omega arith, eqb-true (letterAt text (n + 1 + m)) 77 f, eqb-true (fromAt text (n + 1 + m)) v (simp (e, f) at h))
     go false false e f rest = let z : false ≡ true = simp (e, f) at h in let y : _≡_ {A = ℕ} 0 1 = cc in absurd (omega arith)
 
-cost-small : (letter : ℕ) → costOf letter < 2
+-- a cost is 0 or 1
+pub cost-small : (letter : ℕ) → costOf letter < 2
 unfolding costOf
 cost-small letter = go (eqb letter 68)
   where

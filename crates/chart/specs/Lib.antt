@@ -3,12 +3,14 @@ pub mod Text
 pub mod Meaning
 pub mod Refusals
 pub mod Examined
--- Laws that callers cite: Exact (refusals), Accepted (the arena of an accepted text), Faithful (texts and arenas).
+-- Laws that callers cite: Exact (refusals), Accepted (the arena of an accepted text), Taken (good lines are accepted), Faithful (texts
+-- and arenas).
 -- The others lead to them.
 pub mod Columns
 pub mod Flags
 pub mod Header
 pub mod Good
+pub mod Taken
 pub mod Arenas
 pub mod Accepted
 pub mod LineExact

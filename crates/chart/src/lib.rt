@@ -53,8 +53,8 @@ pub fn examine(text: &[u8]) -> Examination
     }
 }
 
-// The header: its form, the limits, and that there are as many lines as it says.
-fn header(text: &[u8]) -> Examination
+// The header: its form, the limits, and that there are as many lines as it says. The bound keeps it within the text.
+pub fn header(text: &[u8]) -> Examination
     requires { ⌜ 12 ≤ length (now text) ⌝ }
     ensures { λ r. ⌜ r ≡ headerOf (now (text .entry)) ⌝ }
 {

@@ -8,8 +8,9 @@ ghost use Rattle.checking.specs.Checking.{FormedIs, PlateIs, checked};
 use chart::Examination;
 use decode::load;
 use plate::Form;
-use plate::examine_plate;
 use plate::read_rows;
+use plate_walk::Sheet;
+use plate_walk::load_plate;
 use refusal::Refusal;
 use rows::Chart;
 use verdict::Verdict;
@@ -60,12 +61,29 @@ fn check_plate(
     requires { ⌜ ChartRows n m (now owners) (now marks) (now costs) (now froms) (now tos) × Ascending m (now froms) ⌝ }
     ensures { λ r. ⌜ PlateIs n m (now (owners .entry)) (now (marks .entry)) (now (costs .entry)) (now (froms .entry)) (now (tos .entry)) (now (plate .entry)) r ⌝ }
 {
-    match examine_plate(n, plate) {
-        Form::Bad(line) => Checked::Refused(Refusal::Plate(line)),
-        Form::Good => match check_formed(n, m, owners, marks, costs, froms, tos, plate) {
-            Verdict::Sound => Checked::Accepted,
-            Verdict::Fault(v, condition) => Checked::Refused(Refusal::Fault(v, condition)),
-        },
+    let mut values = [0u16; Chart::POSITIONS];
+    let mut choices = [0u16; Chart::POSITIONS];
+    let mut steps = [0u16; Chart::POSITIONS];
+    match load_plate(n, plate, &mut values, &mut choices, &mut steps) {
+        Sheet::Bad(line) => Checked::Refused(Refusal::Plate(line)),
+        Sheet::Rows(header) => {
+            match check_rows(
+                n,
+                m,
+                owners,
+                marks,
+                costs,
+                froms,
+                tos,
+                &values,
+                &choices,
+                &steps,
+                header,
+            ) {
+                Verdict::Sound => Checked::Accepted,
+                Verdict::Fault(v, condition) => Checked::Refused(Refusal::Fault(v, condition)),
+            }
+        }
     }
 }
 

@@ -1,5 +1,6 @@
 -- Conditions 1 to 5 of Checking at one position, as the code's tests on numbers: 65,535 stands for "ever" and the dash.
-use Prim.Native.Nat.{ℕ, _+_}
+use Prim.Native.Nat.{ℕ, _+_, _*_, _<_}
+use mathlib.Core.Path.{_≡_}
 use mathlib.Core.Bool.{Bool, Bool·beq, false, cond, not, _&&_, _||_}
 use lib.Dec.{eqb, leb, ltb}
 use Rattle.conditions.specs.declared.Line.{Line}
@@ -33,6 +34,11 @@ afterMoves l s =
 -- "Earlier means smaller value, or equal value and smaller step; `-` is above each step."
 unfoldable pub earlierTarget : Line → Target → Bool
 earlierTarget l t = ltb (t .value) (l .value) || (eqb (t .value) (l .value) && ltb (t .step) (l .step))
+
+-- a value and a step below 65,536 as one number
+pub record Rank (value step r : ℕ) : Type 0 where
+  pub is : r ≡ value * 65536 + step
+  pub low : step < 65536
 
 -- what a meant move shows: at O the choice must hold, at L every target; ruin goes at L by one that is earlier
 abbrev pub shownMeant : Line → Target → Seen

@@ -1,6 +1,6 @@
 // Conditions 1 to 5 of Checking at one position: those that its own line settles, and those that its moves settle.
 ghost use mathlib.Core.Path.{_≡_};
-ghost use Rattle.conditions.specs.Position.{afterMoves, beforeMoves, earlierTarget, joined, nothing, shown};
+ghost use Rattle.conditions.specs.Position.{Rank, afterMoves, beforeMoves, earlierTarget, joined, nothing, shown};
 use rows::NONE;
 
 // A position: its owner and mark in the chart, and its line of the plate.
@@ -74,17 +74,18 @@ pub fn after_moves(line: Line, seen: Seen) -> u8
     if exempt | ruined { 0 } else { 5 }
 }
 
-// Smaller value, or equal value and smaller step; 65,535 is above each.
+// Smaller value, or equal value and smaller step; 65,535 is above each. One comparison, without jumps.
 fn earlier(line: Line, target: Target) -> bool
     ensures { λ r. ⌜ r ≡ earlierTarget line target ⌝ }
 {
-    if target.value < line.value {
-        return true;
-    }
-    if target.value == line.value {
-        return target.step < line.step;
-    }
-    false
+    rank(target.value, target.step) < rank(line.value, line.step)
+}
+
+// A value and a step as one number: the value first.
+fn rank(value: u16, step: u16) -> u32
+    ensures { λ r. ⌜ Rank value step r ⌝ }
+{
+    value as u32 * 65536 + step as u32
 }
 
 // What one move shows. A disturbance's target counts with its cost more, in a width that no sum leaves: beside a finite value 65,535

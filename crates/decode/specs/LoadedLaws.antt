@@ -4,20 +4,23 @@ use native.Mathlib.Omega.{arith}
 use mathlib.Core.Path.{_≡_, sym, ap, subst, _∙_}
 use mathlib.Core.List.{List}
 use lib.ListN.{length}
-use Rattle.rows.specs.Rows.{ownerNumber}
+use Rattle.rows.specs.Rows.{RowIs, Filled, Kept, ownerNumber}
 use Rattle.game.specs.Arena.{Position, Move}
 use Rattle.field.specs.Text.{decimalAt}
 use Rattle.field.specs.Laws.{field-spells}
 use Rattle.chart.specs.Text.{letterAt, firstAt, secondAt, markAt, fieldNumber, positionsOf, movesOf, fromAt, toAt}
 use Rattle.chart.specs.Meaning.{costOf, positionOn, moveOn, arenaOf}
-use Rattle.chart.specs.Examined.{examined}
+use Rattle.chart.specs.Examined.{headerOf, examined}
+use Rattle.chart.specs.Header.{header-accepts}
 use Rattle.chart.specs.Arenas.{arena-position, arena-move}
 use Rattle.chart.specs.Accepted.{accepted-chartable, accepted-size, accepted-moves}
 use Rattle.chart.specs.Good.{GoodChart, accepted-good}
 use Rattle.rows.specs.declared.Chart.{Chart}
+use Rattle.refusal.specs.declared.Misdrawn.{Misdrawn}
 use Rattle.chart.specs.declared.Examination.{Examination}
-use Rattle.chart.specs.declared.Examination.the-variants.{Accepted}
-use Rattle.decode.specs.Loaded.{PositionRows, MoveRows, Loaded}
+use Rattle.chart.specs.declared.Examination.the-variants.{Accepted, Refused}
+use Rattle.walk.specs.Decoded.{PositionRows, MoveRows}
+use Rattle.decode.specs.Loaded.{Loaded, Cleared, LoadIs}
 
 -- what decoding needs of an accepted text: the lines are there, the numbers fit the rows, and the bytes spell them
 pub record PositionsFit (text : List ℕ) (n : ℕ) : Type 0 where
@@ -69,7 +72,7 @@ moves-fit text chart e =
     subst (λ (k : Chart). MovesFit text (k .positions + 1) (k .moves)) (sym (w .1)) (good-moves text (w .0))
 
 -- the decoded rows of an accepted text are its arena's
-pub accepted-rows-load : (text : List ℕ) (chart : Chart) (owners₀ owners marks₀ marks costs₀ costs froms₀ froms tos₀ tos : List ℕ) → examined text ≡ Accepted chart →
+accepted-rows-load : (text : List ℕ) (chart : Chart) (owners₀ owners marks₀ marks costs₀ costs froms₀ froms tos₀ tos : List ℕ) → examined text ≡ Accepted chart →
     (512 ≤ length owners) × (512 ≤ length marks) → (4096 ≤ length costs) × (4096 ≤ length froms) × (4096 ≤ length tos) →
     PositionRows text (chart .positions) owners₀ owners marks₀ marks → MoveRows text (chart .positions + 1) (chart .moves) costs₀ costs froms₀ froms tos₀ tos →
     Loaded (arenaOf text) (chart .positions) (chart .moves) owners₀ owners marks₀ marks costs₀ costs froms₀ froms tos₀ tos
@@ -108,10 +111,55 @@ accepted-rows-load text chart owners₀ owners marks₀ marks costs₀ costs fro
       tos-past = m .to .rest;
     }
 
--- the same for whatever chart the answer is
-pub answered-rows-load : (text : List ℕ) (chart other : Chart) (owners₀ owners marks₀ marks costs₀ costs froms₀ froms tos₀ tos : List ℕ) → _≡_ {A = Examination} (Accepted chart) (Accepted other) →
-    Loaded (arenaOf text) (chart .positions) (chart .moves) owners₀ owners marks₀ marks costs₀ costs froms₀ froms tos₀ tos →
-    Loaded (arenaOf text) (other .positions) (other .moves) owners₀ owners marks₀ marks costs₀ costs froms₀ froms tos₀ tos
-answered-rows-load text chart other owners₀ owners marks₀ marks costs₀ costs froms₀ froms tos₀ tos e w =
-    let same : chart ≡ other = cc in
-    subst (λ (k : Chart). Loaded (arenaOf text) (k .positions) (k .moves) owners₀ owners marks₀ marks costs₀ costs froms₀ froms tos₀ tos) same w
+-- so an accepted text is loaded
+pub accepted-loads : (text : List ℕ) (chart : Chart) (owners₀ owners marks₀ marks costs₀ costs froms₀ froms tos₀ tos : List ℕ) → examined text ≡ Accepted chart →
+    (512 ≤ length owners) × (512 ≤ length marks) → (4096 ≤ length costs) × (4096 ≤ length froms) × (4096 ≤ length tos) →
+    PositionRows text (chart .positions) owners₀ owners marks₀ marks → MoveRows text (chart .positions + 1) (chart .moves) costs₀ costs froms₀ froms tos₀ tos →
+    LoadIs text (Accepted chart) owners₀ owners marks₀ marks costs₀ costs froms₀ froms tos₀ tos
+accepted-loads text chart owners₀ owners marks₀ marks costs₀ costs froms₀ froms tos₀ tos e long longer p m =
+    record {
+      answer = sym e;
+      taken = λ other q.
+          let same : chart ≡ other = cc in
+          subst (λ (k : Chart). Loaded (arenaOf text) (k .positions) (k .moves) owners₀ owners marks₀ marks costs₀ costs froms₀ froms tos₀ tos) same
+          (accepted-rows-load text chart owners₀ owners marks₀ marks costs₀ costs froms₀ froms tos₀ tos e long longer p m);
+      refused = λ s q. let z : _≡_ {A = ℕ} 0 1 = cc in absurd (omega arith);
+    }
+
+-- and a refused one is not
+pub refused-loads : (text : List ℕ) (s : Misdrawn) (owners₀ owners marks₀ marks costs₀ costs froms₀ froms tos₀ tos : List ℕ) → examined text ≡ Refused s →
+    Cleared owners marks costs froms tos → LoadIs text (Refused s) owners₀ owners marks₀ marks costs₀ costs froms₀ froms tos₀ tos
+refused-loads text s owners₀ owners marks₀ marks costs₀ costs froms₀ froms tos₀ tos e w =
+    record {
+      answer = sym e;
+      taken = λ chart q. let z : _≡_ {A = ℕ} 0 1 = cc in absurd (omega arith);
+      refused = λ t q. w;
+    }
+
+-- an answer to a chart of these counts whose rows were written before: what lies past the counts is what was there at first
+pub load-after : (text : List ℕ) (chart : Chart) (r : Examination) (owners₀ owners₁ owners marks₀ marks₁ marks costs₀ costs₁ costs froms₀ froms₁ froms tos₀ tos₁ tos : List ℕ) →
+    headerOf text ≡ Accepted chart → Kept (chart .positions) owners₀ owners₁ → Kept (chart .positions) marks₀ marks₁ →
+    Kept (chart .moves) costs₀ costs₁ → Kept (chart .moves) froms₀ froms₁ → Kept (chart .moves) tos₀ tos₁ →
+    LoadIs text r owners₁ owners marks₁ marks costs₁ costs froms₁ froms tos₁ tos → LoadIs text r owners₀ owners marks₀ marks costs₀ costs froms₀ froms tos₀ tos
+load-after text chart r owners₀ owners₁ owners marks₀ marks₁ marks costs₀ costs₁ costs froms₀ froms₁ froms tos₀ tos₁ tos h a b c d e w =
+    record {
+      answer = w .answer;
+      taken = λ got q.
+          let l = w .taken got q in
+          let same : chart ≡ got = header-accepts text chart h .1 ∙ sym (accepted-good text got (sym (w .answer) ∙ q) .1) in
+          let few : chart .positions ≡ got .positions = ap (λ (k : Chart). k .positions) same in
+          let some : chart .moves ≡ got .moves = ap (λ (k : Chart). k .moves) same in
+          record {
+            rows = l .rows;
+            owners-past = λ j m. l .owners-past j m ∙ a .rest j (omega arith);
+            marks-past = λ j m. l .marks-past j m ∙ b .rest j (omega arith);
+            costs-past = λ j m. l .costs-past j m ∙ c .rest j (omega arith);
+            froms-past = λ j m. l .froms-past j m ∙ d .rest j (omega arith);
+            tos-past = λ j m. l .tos-past j m ∙ e .rest j (omega arith);
+          };
+      refused = w .refused;
+    }
+
+-- a row that was filled over its whole length
+pub filled-all : {old new : List ℕ} {f : ℕ → ℕ} → Filled old new (length old) f → RowIs new (length new) f
+filled-all {old} {new} {f} w k h = w .row k (subst (λ (n : ℕ). k < n) (w .same-length) h)

@@ -29,7 +29,7 @@ unfolding stepped
 digit-first d h k =
     simp (ne-eqb (48 + d) 32 (omega arith), ne-eqb (48 + d) 48 (omega arith)) (digit-after 0 d (omega arith) k ∙ ap Digits (omega arith))
 
-place-space : (x unit : ℕ) → x < unit → placeByte x unit ≡ 32
+pub place-space : (x unit : ℕ) → x < unit → placeByte x unit ≡ 32
 unfolding placeByte
 place-space x unit h = simp (lt-ltb x unit h)
 

@@ -123,8 +123,9 @@ fn value(b: u8) -> u32
     (b - b'0') as u32
 }
 
-// The byte in the place of `unit`, 10 to 10,000: a space before the number's first digit.
-fn place(x: u32, unit: u32) -> u8
+// The byte in the place of `unit`, 10 to 10,000: a space before the number's first digit. Callers name the unit; the bound keeps it from
+// being 0.
+pub fn place(x: u32, unit: u32) -> u8
     requires { ⌜ 0 < unit ⌝ }
     ensures { λ r. ⌜ r ≡ placeByte x unit ⌝ }
 {

@@ -1,30 +1,65 @@
 -- What summing up two rows answers: the numbers of a plate's first line, counted from its rows of values and steps.
-use Prim.Native.Nat.{ℕ, _+_, _*_, _<_}
+use Prim.Native.Nat.{ℕ, _+_, _-_, _≤_, _<_, _%_}
 use mathlib.Core.Path.{_≡_}
-use mathlib.Core.Bool.{Bool, not, cond}
+use mathlib.Core.Bool.{Bool, not, cond, _&&_}
 use mathlib.Core.List.{List}
-use lib.ListN.{getD}
-use lib.Dec.{eqb, leb}
-use Rattle.rows.specs.Numbers.{free}
+use lib.ListN.{getD, set}
+use lib.Dec.{eqb, ltb}
+use Rattle.search.specs.Below.{bit, countBelow}
+use Rattle.search.specs.First.{firstFrom}
+use Rattle.rows.specs.Rows.{RowIs}
+use Rattle.rows.specs.Numbers.{numberOf, rowValue, free}
+use Rattle.rows.specs.NumberLaws.{Fits}
 use Rattle.rows.specs.Filling.{setIf}
+use Rattle.game.specs.FirstLine.{firstOfPair, highest}
 
 -- every finite value, and the step beside it, is below 512
 abbrev pub PairsFit : ℕ → List ℕ → List ℕ → Type 0
 PairsFit n values steps = (v : ℕ) → v < n → (getD values v 0 ≡ 65535 → ⊥) → (getD values v 0 < 512) × (getD steps v 0 < 512)
 
--- the pair of v as a number: below 262,144 where value and step are below 512
-unfoldable pub pairNumber : List ℕ → List ℕ → ℕ → ℕ
-pairNumber values steps v = getD values v 0 * 512 + getD steps v 0
+-- the lowest of the n positions from i on whose value is k; 65,535 if there is none
+unfoldable pub nextOf : List ℕ → ℕ → ℕ → ℕ → ℕ
+nextOf values n k i = firstFrom (λ v. not (eqb (getD values v 0) k)) (λ v. v) 65535 (n - i) i
 
--- a pair of v: v is no "ever"
-unfoldable pub hasPair : List ℕ → ℕ → Bool
-hasPair values v = not (free values v)
+-- the positions from i on are chained by value: each value has the lowest, and each position the next with its value
+pub record Chained (values : List ℕ) (n i : ℕ) (heads nexts : List ℕ) : Type 0 where
+  pub head : RowIs heads 512 (λ k. nextOf values n k i)
+  pub next : (v : ℕ) → i ≤ v → v < n → (getD values v 0 ≡ 65535 → ⊥) → getD nexts v 0 ≡ nextOf values n (getD values v 0) (v + 1)
 
--- the pair of v is looked up and noted: 1 if it is new
-pub record PairNoted (v : ℕ) (values steps seen seen′ : List ℕ) (count : ℕ) : Type 0 where
-  pub noted : seen′ ≡ setIf (hasPair values v) (pairNumber values steps v) 1 seen
-  pub counted : count ≡ cond (hasPair values v) (cond (eqb (getD seen (pairNumber values steps v) 0) 0) 1 0) 0
+-- v, if its value is finite, goes to the front of its value's chain
+pub record Linked (v : ℕ) (values heads heads′ nexts nexts′ : List ℕ) : Type 0 where
+  pub head : heads′ ≡ setIf (not (free values v)) (getD values v 0) v heads
+  pub next : nexts′ ≡ setIf (not (free values v)) v (getD heads (getD values v 0) 0) nexts
 
--- the higher of the highest so far (65,535 if there is none) and a value
-unfoldable pub higherNumber : ℕ → ℕ → ℕ
-higherNumber top x = cond (eqb x 65535) top (cond (eqb top 65535) x (cond (leb top x) x top))
+-- v is the first with its pair, and its value is k
+unfoldable pub firstOfValue : ℕ → List ℕ → List ℕ → ℕ → Bool
+firstOfValue k values steps v = eqb (getD values v 0) k && firstOfPair (rowValue values) (rowValue steps) v
+
+-- every stamp is at most k
+abbrev pub StampsMost : ℕ → List ℕ → Type 0
+StampsMost k stamps = (s : ℕ) → s < 512 → getD stamps s 0 ≤ k
+
+-- the step of v gets the stamp of its value: 1 if it did not have it
+pub record Stamped (v : ℕ) (values steps stamps stamps′ : List ℕ) (count : ℕ) : Type 0 where
+  pub stamp : stamps′ ≡ set stamps (getD steps v 0) (getD values v 0 + 1)
+  pub counted : count ≡ bit (not (eqb (getD stamps (getD steps v 0) 0) (getD values v 0 + 1)))
+
+-- the pairs of value k are counted, and no stamp is above its own
+pub record ChainCounted (n k : ℕ) (values steps stamps : List ℕ) (count : ℕ) : Type 0 where
+  pub counted : count ≡ countBelow (firstOfValue k values steps) n
+  pub most : StampsMost (k + 1) stamps
+
+-- one more, where 65,535 ("none") becomes 0, and back; and the larger of two
+unfoldable pub after : ℕ → ℕ
+after x = (x + 1) % 65536
+
+unfoldable pub before : ℕ → ℕ
+before x = cond (eqb x 0) 65535 (x - 1)
+
+unfoldable pub larger : ℕ → ℕ → ℕ
+larger x y = cond (ltb x y) y x
+
+-- one more than the highest finite number of a row, 0 if there is none
+pub record PastHighest (n : ℕ) (row : List ℕ) (past : ℕ) : Type 0 where
+  pub past-is : past ≡ after (numberOf (highest (rowValue row) n))
+  pub fits : Fits (highest (rowValue row) n)

@@ -99,22 +99,13 @@ fn put_line(text: &mut [u8], i: usize, letter: u8, a: usize, b: usize) {
     }
 }
 
-// The rows of document 01's chart, and that a refusal leaves them: each begins with 9s.
+// The rows of document 01's chart, behind which what was there stays, and that a refusal clears them: each begins with 9s.
 pub fn rows() {
     let mut owners = [9u8; Chart::POSITIONS];
     let mut marks = [9u8; Chart::POSITIONS];
     let mut costs = [9u8; Chart::MOVES];
     let mut froms = [9u16; Chart::MOVES];
     let mut tos = [9u16; Chart::MOVES];
-    decode::load(
-        b"H    1    1\n",
-        &mut owners,
-        &mut marks,
-        &mut costs,
-        &mut froms,
-        &mut tos,
-    );
-    bytes(b"  owners after a refusal", &owners, 6);
     decode::load(
         &document(),
         &mut owners,
@@ -128,6 +119,16 @@ pub fn rows() {
     bytes(b"  costs", &costs, 9);
     numbers(b"  froms", &froms, 9);
     numbers(b"  tos", &tos, 9);
+    decode::load(
+        b"H    1    1\n",
+        &mut owners,
+        &mut marks,
+        &mut costs,
+        &mut froms,
+        &mut tos,
+    );
+    bytes(b"  owners after a refusal", &owners, 6);
+    numbers(b"  tos after a refusal", &tos, 2);
 }
 
 // The first `count` numbers of a row.

@@ -61,8 +61,8 @@ fn positions_form(n: usize, plate: &[u8]) -> Form
     Form::Good
 }
 
-// The first line: n, rounds, highest, count of "ever".
-fn header_good(n: usize, plate: &[u8]) -> bool
+// The first line: n, rounds, highest, count of "ever". The bound keeps it within the text: the length is tested before.
+pub fn header_good(n: usize, plate: &[u8]) -> bool
     requires { ⌜ 22 ≤ length (now plate) ⌝ }
     ensures { λ r. ⌜ r ≡ headerGood n (now (plate .entry)) ⌝ }
 {

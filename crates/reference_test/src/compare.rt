@@ -28,6 +28,8 @@ use crate::text::part;
 use crate::text::write_chart;
 use crate::text::write_plate;
 use checking::Checked;
+use comparing::Compared;
+use comparing::compare;
 use reading::Reading;
 use reading::read_plate;
 use refusal::Numbers;
@@ -162,7 +164,7 @@ fn compare_jobs(chart: &Chart, table: &Table, text: &[u8], seed: &mut usize, tal
     compare_plate(chart, table, text, tally);
     compare_check(chart, table, text, tally);
     change_plates(chart, table, text, turns_of(positions(chart)), seed, tally);
-    weigh_controllers(chart, text, seed, tally);
+    weigh_controllers(chart, table, text, seed, tally);
 }
 
 // Valuing: three rows and the rounds.
@@ -338,14 +340,20 @@ fn turned(x: usize, back: usize, size: usize, past: usize) -> usize {
     if size == 0 { 0 } else { size - 1 }
 }
 
-// Weighing: each positional controller of a chart of one or two positions, else four that are drawn.
-fn weigh_controllers(chart: &Chart, text: &[u8], seed: &mut usize, tally: &mut Tally) {
+// Weighing and Comparing: each positional controller of a chart of one or two positions, else four that are drawn.
+fn weigh_controllers(
+    chart: &Chart,
+    solved: &Table,
+    text: &[u8],
+    seed: &mut usize,
+    tally: &mut Tally,
+) {
     let mut i: usize = 0;
     while i < 4 {
         if 2 < positions(chart) {
-            weigh_drawn(chart, text, seed, tally);
+            weigh_drawn(chart, solved, text, seed, tally);
         } else {
-            weigh_numbered(chart, text, i % 2, i / 2, tally);
+            weigh_numbered(chart, solved, text, i % 2, i / 2, tally);
         }
         i += 1;
     }
@@ -361,23 +369,32 @@ fn ways(chart: &Chart, v: usize) -> usize {
     1
 }
 
-fn weigh_numbered(chart: &Chart, text: &[u8], here: usize, there: usize, tally: &mut Tally) {
-    let mut table = [0usize; 4096];
+fn weigh_numbered(
+    chart: &Chart,
+    solved: &Table,
+    text: &[u8],
+    here: usize,
+    there: usize,
+    tally: &mut Tally,
+) {
+    let mut table = *solved;
     let mut row = [4660u16; 512];
     if here < ways(chart, 0) {
         if there < ways(chart, 1) {
             choose(chart, &mut table, &mut row, 0, here);
             choose(chart, &mut table, &mut row, 1, there);
             compare_worths(chart, &mut table, text, &row, tally);
+            compare_rows(chart, solved, &table, text, &row, tally);
         }
     }
 }
 
-fn weigh_drawn(chart: &Chart, text: &[u8], seed: &mut usize, tally: &mut Tally) {
-    let mut table = [0usize; 4096];
+fn weigh_drawn(chart: &Chart, solved: &Table, text: &[u8], seed: &mut usize, tally: &mut Tally) {
+    let mut table = *solved;
     let mut row = [4660u16; 512];
     choose_drawn(chart, &mut table, &mut row, seed);
     compare_worths(chart, &mut table, text, &row, tally);
+    compare_rows(chart, solved, &table, text, &row, tally);
 }
 
 fn choose_drawn(chart: &Chart, table: &mut Table, row: &mut [u16; 512], seed: &mut usize) {
@@ -419,5 +436,51 @@ fn is_done(answer: Weighed) -> bool {
     match answer {
         Weighed::Done => true,
         Weighed::Refused(_) => false,
+    }
+}
+
+// Comparing the chart's own plate with choices whose worths are in the table, beside the values.
+fn compare_rows(
+    chart: &Chart,
+    solved: &Table,
+    table: &Table,
+    text: &[u8],
+    row: &[u16; 512],
+    tally: &mut Tally,
+) {
+    let n = positions(chart);
+    let mut page = [b'#'; 65536];
+    let size = write_plate(&mut page, solved, n);
+    let answer = compare(text, part(&page, size), row);
+    let first = first_difference(table, n);
+    expect(
+        same_difference(answer, table, n, first),
+        b"comparing",
+        text,
+        tally,
+    );
+}
+
+// The first of n positions whose value and worth differ, n if none does.
+fn first_difference(table: &Table, n: usize) -> usize {
+    let mut v = 0;
+    while v < n {
+        if get(table, VALUE, v) != get(table, WORTH, v) {
+            return v;
+        }
+        v += 1;
+    }
+    n
+}
+
+fn same_difference(answer: Compared, table: &Table, n: usize, first: usize) -> bool {
+    match answer {
+        Compared::Refused(_) => false,
+        Compared::Agree => first == n,
+        Compared::Differ(v, value, worth) => {
+            let values = wide(value) == get(table, VALUE, first);
+            let worths = wide(worth) == get(table, WORTH, first);
+            (v == first) & values & worths
+        }
     }
 }

@@ -15,7 +15,7 @@ mod text;
 fn main() {
     io::write_all(
         1,
-        b"charts, positions, moves, rounds, highest value, checksum; controllers weighed; plates accepted and refused by conditions 1 to 6; mismatches\n",
+        b"charts, positions, moves, rounds, highest value, checksum; controllers weighed and compared; plates accepted and refused by conditions 1 to 6; mismatches\n",
     );
     some(b"every chart of 1 position", 0, 6);
     some(b"every chart of 2 positions", 1, 900);

@@ -1,6 +1,6 @@
 -- The line of a chart's refusal is one of the chart's lines, of which there are 4,609 at most: so the five places of the program's
 -- field hold it whole. A refusal that gives a line above 0 comes after 3 in the order, so the counts are within their limits.
-use Prim.Native.Nat.{ℕ, _+_, _%_, _≤_, _<_}
+use Prim.Native.Nat.{ℕ, _+_, _≤_, _<_}
 use native.Mathlib.Omega.{arith}
 use native.Mathlib.Nat.{mod-eq-of-lt}
 use mathlib.Core.Path.{_≡_, refl}

@@ -8,7 +8,7 @@ use mathlib.Core.List.{List}
 use lib.ListN.{length, getD, set, length-set, replicate, getD-replicate}
 use lib.Seq.{getD-set-same, getD-set-other}
 use borrow.Author.Count.{below-more}
-use Rattle.rows.specs.Rows.{RowIs, Filled, Stays}
+use Rattle.rows.specs.Rows.{RowIs, Filled, Kept, Stays}
 
 pub filled-none : (l : List ℕ) (f : ℕ → ℕ) → Filled l l 0 f
 filled-none l f = record { row = λ k h. absurd (omega arith); rest = λ k h. refl; same-length = refl }
@@ -30,6 +30,16 @@ filled-same old new count total f g e h w = record {
   rest = λ k l. w .rest k (omega arith);
   same-length = w .same-length;
 }
+
+-- a row that is only looked at, one filled up to some place, and one filled after it was touched
+pub kept-same : (count : ℕ) (row : List ℕ) → Kept count row row
+kept-same count row = record { rest = λ j l. refl; same-length = refl }
+
+pub filled-kept : {i count : ℕ} {f : ℕ → ℕ} {old new : List ℕ} → i ≤ count → Filled old new i f → Kept count old new
+filled-kept h w = record { rest = λ j l. w .rest j (omega arith); same-length = w .same-length }
+
+pub filled-after : {count : ℕ} {f : ℕ → ℕ} {old touched new : List ℕ} → Kept count old touched → Filled touched new count f → Filled old new count f
+filled-after w h = record { row = h .row; rest = λ j l. h .rest j l ∙ w .rest j l; same-length = h .same-length ∙ w .same-length }
 
 -- the row with x at v, if the test passes
 abbrev pub setIf : Bool → ℕ → ℕ → List ℕ → List ℕ

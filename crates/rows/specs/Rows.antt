@@ -21,6 +21,11 @@ pub record Filled (old new : List ℕ) (count : ℕ) (f : ℕ → ℕ) : Type 0 
   pub rest : Stays count old new
   pub same-length : length new ≡ length old
 
+-- a row of which only the first `count` numbers may have changed
+pub record Kept (count : ℕ) (old new : List ℕ) : Type 0 where
+  pub rest : Stays count old new
+  pub same-length : length new ≡ length old
+
 -- an owner as a number in a row: 0 the controller, 1 the environment
 abbrev pub ownerNumber : Owner → ℕ
 ownerNumber controller = 0

@@ -51,6 +51,14 @@ count-bound p (suc n) = go (p n) (count-bound p n)
     go true h = omega arith
     go false h = omega arith
 
+-- numbers past i that don't pass change nothing
+pub count-stays : (p : ℕ → Bool) (i k : ℕ) → ((j : ℕ) → i ≤ j → j < i + k → p j ≡ false) → countBelow p (i + k) ≡ countBelow p i
+unfolding countBelow
+count-stays p i zero h = let e : i + 0 ≡ i = omega arith in ap (countBelow p) e
+count-stays p i (suc k) h =
+    let e : i + suc k ≡ suc (i + k) = omega arith in
+    ap (countBelow p) e ∙ rw (h (i + k) (omega arith) (omega arith)) (let rest = count-stays p i k (λ j l m. h j l (omega arith)) in omega arith)
+
 -- where none is counted, none passes
 pub count-zero : (p : ℕ → Bool) (i : ℕ) → countBelow p i ≡ 0 → (j : ℕ) → j < i → T (p j) → ⊥
 unfolding countBelow

@@ -1,5 +1,6 @@
 pub mod Verdict
 pub mod Sheet
+pub mod Ranks
 pub mod RowsChecked
 pub mod VerdictLaws
 pub mod Walk

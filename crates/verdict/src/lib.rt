@@ -5,7 +5,8 @@ ghost use lib.ListN.{length, getD};
 ghost use Rattle.rows.specs.Rows.{ChartRows, Within};
 ghost use Rattle.rows.specs.Numbers.{rowValue};
 ghost use Rattle.first_line.specs.Counting.{PairsFit};
-ghost use Rattle.verdict.specs.Sheet.{Ascending, Formed, Sized, lineOf, rowFault, sheet, targetOf};
+ghost use Rattle.verdict.specs.Sheet.{Ascending, Formed, Sized, lineOf, rowFault, sheet};
+ghost use Rattle.verdict.specs.Ranks.{Ranked, RowsRanked, rankedTarget};
 ghost use Rattle.verdict.specs.Verdict.{firstFault, headerVerdict};
 ghost use Rattle.verdict.specs.RowsChecked.{RowsChecked};
 use conditions::Line;
@@ -15,6 +16,7 @@ use conditions::after_moves;
 use conditions::before_moves;
 use conditions::see;
 use first_line::count_first_line;
+use rows::Chart;
 use rows::FirstLine;
 
 // No fault, or the first one's position and condition.
@@ -41,6 +43,8 @@ pub fn check_rows(
     requires { ⌜ ChartRows n m (now owners) (now marks) (now costs) (now froms) (now tos) × Ascending m (now froms) × Formed n (now values) (now steps) × (n ≤ length (now values)) × (n ≤ length (now choices)) × (n ≤ length (now steps)) ⌝ }
     ensures { λ r. ⌜ RowsChecked n m (sheet (now (owners .entry)) (now (marks .entry)) (now (costs .entry)) (now (froms .entry)) (now (tos .entry)) (now (values .entry)) (now (choices .entry)) (now (steps .entry))) header r ⌝ }
 {
+    let mut ranks = [0u32; Chart::POSITIONS];
+    rank_rows(n, values, steps, &mut ranks);
     match first_fault(
         n,
         m,
@@ -52,6 +56,7 @@ pub fn check_rows(
         values,
         choices,
         steps,
+        &ranks,
     ) {
         Verdict::Fault(v, condition) => Verdict::Fault(v, condition),
         Verdict::Sound => header_fault(n, values, steps, header),
@@ -95,18 +100,30 @@ fn line_at(
     }
 }
 
+// Value and step of each position as one number, so that a move's target is looked up once.
+fn rank_rows(n: usize, values: &[u16], steps: &[u16], ranks: &mut [u32])
+    requires { ⌜ (n ≤ length (now values)) × (n ≤ length (now steps)) × (n ≤ length (now ranks)) ⌝ }
+    ensures { λ _. ⌜ RowsRanked n (now (values .entry)) (now (steps .entry)) (now (ranks .entry)) (now (ranks .exit)) ⌝ }
+{
+    let mut v: usize = 0;
+    while v < n {
+        ranks[v] = values[v] as u32 * 65536 + steps[v] as u32;
+        v += 1;
+    }
+}
+
 // The i-th move.
-fn target_at(i: usize, costs: &[u8], tos: &[u16], values: &[u16], steps: &[u16]) -> Target
-    requires { ⌜ (i < length (now costs)) × (i < length (now tos)) × (getD (now tos) i 0 < length (now values)) × (getD (now tos) i 0 < length (now steps)) ⌝ }
-    ensures { λ r. ⌜ r ≡ targetOf (now (costs .entry)) (now (tos .entry)) (now (values .entry)) (now (steps .entry)) i ⌝ }
+fn target_at(i: usize, costs: &[u8], tos: &[u16], ranks: &[u32]) -> Target
+    requires { ⌜ (i < length (now costs)) × (i < length (now tos)) × (getD (now tos) i 0 < length (now ranks)) ⌝ }
+    ensures { λ r. ⌜ r ≡ rankedTarget (now (costs .entry)) (now (tos .entry)) (now (ranks .entry)) i ⌝ }
 {
     let to = tos[i];
-    let w = to as usize;
+    let rank = ranks[to as usize];
     Target {
         cost: costs[i],
         to,
-        value: values[w],
-        step: steps[w],
+        value: (rank / 65536) as u16,
+        step: (rank % 65536) as u16,
     }
 }
 
@@ -123,8 +140,9 @@ fn first_fault(
     values: &[u16],
     choices: &[u16],
     steps: &[u16],
+    ranks: &[u32],
 ) -> Verdict
-    requires { ⌜ Within n m (now costs) (now froms) (now tos) × Ascending m (now froms) × Sized n (now owners) (now marks) (now values) (now choices) (now steps) ⌝ }
+    requires { ⌜ Within n m (now costs) (now froms) (now tos) × Ascending m (now froms) × Sized n (now owners) (now marks) (now values) (now choices) (now steps) × Ranked n (now values) (now steps) (now ranks) ⌝ }
     ensures { λ r. ⌜ r ≡ firstFault (rowFault m (sheet (now (owners .entry)) (now (marks .entry)) (now (costs .entry)) (now (froms .entry)) (now (tos .entry)) (now (values .entry)) (now (choices .entry)) (now (steps .entry)))) Verdict.Sound n ⌝ }
 {
     let mut v: usize = 0;
@@ -143,7 +161,7 @@ fn first_fault(
             if froms[i] as usize != v {
                 break;
             }
-            seen = see(seen, line, target_at(i, costs, tos, values, steps));
+            seen = see(seen, line, target_at(i, costs, tos, ranks));
             if (line.owner != 0) & seen.low {
                 break 'positions Verdict::Fault(v, 4);
             }

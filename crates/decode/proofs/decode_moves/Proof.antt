@@ -7,7 +7,7 @@ use lib.ListN.{length}
 use denote.Ref.{now}
 use Rattle.rows.specs.Filling.{filled-none, filled-more}
 use Rattle.chart.specs.Text.{letterAt}
-use Rattle.decode.specs.Loaded.{MoveRows}
+use Rattle.walk.specs.Decoded.{MoveRows}
 use Rattle.decode.specs.LoadedLaws.{MovesFit, moves-fit}
 use Rattle.decode.proofs.decode_moves.Statement.{statement}
 use Rattle.decode.proofs.decode_moves.Tie as tie

@@ -7,7 +7,7 @@ use lib.ListN.{length}
 use denote.Ref.{now}
 use Rattle.rows.specs.Filling.{filled-none, filled-more}
 use Rattle.chart.specs.Text.{letterAt}
-use Rattle.decode.specs.Loaded.{PositionRows}
+use Rattle.walk.specs.Decoded.{PositionRows}
 use Rattle.decode.specs.LoadedLaws.{PositionsFit, positions-fit}
 use Rattle.decode.proofs.decode_positions.Statement.{statement}
 use Rattle.decode.proofs.decode_positions.Tie as tie

@@ -9,6 +9,7 @@ use mathlib.Core.Logic.{⊎-elim, inl, inr}
 use mathlib.Core.Bool.{Bool, true, false, not, _&&_, true≢false}
 use Rattle.conditions.specs.Position.{afterMoves, beforeMoves, isController}
 use Rattle.verdict.specs.Sheet.{lineAt, sheet}
+use Rattle.verdict.specs.Ranks.{ranked-target}
 use Rattle.conditions.specs.declared.Line.{Line}
 use Rattle.verdict.specs.VerdictLaws.{first-fault, no-fault}
 use Rattle.verdict.specs.Walk.{Walked, Walking, walk-begins, position-begins, early-fault, move-seen, low-fault, moves-seen, position-walked}
@@ -21,24 +22,24 @@ environment-low true low e = absurd (true≢false (sym e))
 environment-low false low e = (refl, e)
 
 abbrev Inv-loop : tie.InvT-loop
-Inv-loop n m owners marks costs froms tos values choices steps v i₀ line early seen₀ i seen =
+Inv-loop n m owners marks costs froms tos values choices steps ranks v i₀ line early seen₀ i seen =
     (i ≤ m) × (line ≡ lineAt (sheet owners marks costs froms tos values choices steps) v) × Walking m (sheet owners marks costs froms tos values choices steps) v i seen
 
 abbrev μ-loop : tie.MeasureT-loop
-μ-loop n m owners marks costs froms tos values choices steps v i₀ line early seen₀ i seen = m - i
+μ-loop n m owners marks costs froms tos values choices steps ranks v i₀ line early seen₀ i seen = m - i
 
 abbrev Inv-positions : tie.InvT-positions
-Inv-positions n m owners marks costs froms tos values choices steps v₀ i₀ v i = (v ≤ n) × (i ≤ m) × Walked m (sheet owners marks costs froms tos values choices steps) v i
+Inv-positions n m owners marks costs froms tos values choices steps ranks v₀ i₀ v i = (v ≤ n) × (i ≤ m) × Walked m (sheet owners marks costs froms tos values choices steps) v i
 
 abbrev μ-positions : tie.MeasureT-positions
-μ-positions n m owners marks costs froms tos values choices steps v₀ i₀ v i = n - v
+μ-positions n m owners marks costs froms tos values choices steps ranks v₀ i₀ v i = n - v
 
 positions-holds : tie.Need-positions-holds Inv-loop μ-loop Inv-positions μ-positions
 positions-holds c = (omega arith, omega arith, walk-begins _ _)
 
 line-at-requires : tie.Need-line-at-requires Inv-loop μ-loop Inv-positions μ-positions
 line-at-requires c κs =
-    let sized = c .before .before .before .before .before .before .before .before .before .before .pre .2 in
+    let sized = c .before .before .before .before .before .before .before .before .before .before .before .pre .2 in
     (omega (arith, sized), omega (arith, sized), omega (arith, sized), omega (arith, sized), omega (arith, sized))
 
 before-moves-requires : tie.Need-before-moves-requires Inv-loop μ-loop Inv-positions μ-positions
@@ -54,20 +55,20 @@ loop-holds c =
     (at .1, line, rw (c .none .ensures) (position-begins (at .2) (sym (ap beforeMoves line) ∙ sym (c .before .before .before-moves .ensures) ∙ c .before .if2 .left)))
 
 mul-if3 : tie.Need-mul-if3 Inv-loop μ-loop Inv-positions μ-positions
-mul-if3 c = omega arith
+mul-if3 c = omega (arith, c .before .before .before .before .before .before .before .before .before .before .before .before .before .before .before .before .before)
 
 shared-slice-read-if3 : tie.Need-shared-slice-read-if3 Inv-loop μ-loop Inv-positions μ-positions
 shared-slice-read-if3 c = omega arith
 
 cast-if3 : tie.Need-cast-if3 Inv-loop μ-loop Inv-positions μ-positions
-cast-if3 c = omega (arith, c .shared-slice-known9 .given (c .before .before .loop .i))
+cast-if3 c = omega (arith, c .shared-slice-known10 .given (c .before .before .loop .i))
 
 target-at-requires : tie.Need-target-at-requires Inv-loop μ-loop Inv-positions μ-positions
 target-at-requires c κs =
-    let pre = c .before .before .before .before .before .before .before .before .before .before .before .before .before .before .before .before .before .before .pre in
+    let pre = c .before .before .before .before .before .before .before .before .before .before .before .before .before .before .before .before .before .before .before .pre in
     let i = c .before .before .before .loop .i in
     let to = pre .0 .to-inside i (c .before .before .loop-test .taken) in
-    (omega (arith, pre), omega (arith, pre), omega (arith, pre, to), omega (arith, pre, to))
+    (omega (arith, pre), omega (arith, pre), omega (arith, pre .3 .long, to))
 
 see-requires : tie.Need-see-requires Inv-loop μ-loop Inv-positions μ-positions
 see-requires c κs = search needs
@@ -82,7 +83,7 @@ loop-again : tie.Need-loop-again Inv-loop μ-loop Inv-positions μ-positions
 loop-again c =
     let at = c .before .before .before .before .before .before .before .before .loop .inv in
     let more = c .before .before .before .before .before .before .before .loop-test .taken in
-    (omega (arith, more), at .1, move-seen (at .2) (c .before .before .before .before .before .before .before .before .before .before .before .before .before .before .before .before .before .before .before .before .before .before .before .pre .1) more (c .before .before .before .before .before .if3 .left) (c .before .before .before .see .ensures) (at .1) (c .before .before .before .before .target-at .ensures))
+    (omega (arith, more), at .1, move-seen (at .2) (c .before .before .before .before .before .before .before .before .before .before .before .before .before .before .before .before .before .before .before .before .before .before .before .before .pre .1) more (c .before .before .before .before .before .if3 .left) (c .before .before .before .see .ensures) (at .1) (c .before .before .before .before .target-at .ensures ∙ ranked-target (c .before .before .before .before .before .before .before .before .before .before .before .before .before .before .before .before .before .before .before .before .before .before .before .before .args .costs .now) (c .before .before .before .before .before .before .before .before .before .before .before .before .before .before .before .before .before .before .before .before .before .before .before .before .args .tos .now) (c .before .before .before .before .before .before .before .before .loop .i) (c .before .before .before .before .before .before .before .before .before .before .before .before .before .before .before .before .before .before .before .before .before .before .before .before .pre .3) (c .before .before .before .before .before .before .before .before .before .before .before .before .before .before .before .before .before .before .before .before .before .before .before .before .pre .0 .to-inside _ more)))
 
 after-moves-requires : tie.Need-after-moves-requires Inv-loop μ-loop Inv-positions μ-positions
 after-moves-requires c κs = search needs
@@ -98,7 +99,7 @@ positions-again c =
     let at = c .before .before .before .loop .inv in
     let over = ⊎-elim (λ w. inl (w .left)) (λ w. inr (w .2 .taken)) (c .before .before .loop-test .came) in
     let late = ap (λ (l : Line). afterMoves l (c .before .before .before .loop .seen)) (sym (at .1)) ∙ sym (c .before .after-moves .ensures) in
-    (omega (arith, c .before .before .before .before .before .before .before .before .if1 .left), at .0, position-walked (at .2) (c .before .before .before .before .before .before .before .before .before .before .before .before .before .before .before .before .before .before .pre .1) (at .0) over (late ∙ c .if5 .left))
+    (omega (arith, c .before .before .before .before .before .before .before .before .if1 .left), at .0, position-walked (at .2) (c .before .before .before .before .before .before .before .before .before .before .before .before .before .before .before .before .before .before .before .pre .1) (at .0) over (late ∙ c .if5 .left))
 
 returns : tie.Need-returns Inv-loop μ-loop Inv-positions μ-positions
 returns c = sym (no-fault _ _ _ (λ u l. c .before .positions .inv .2 .clean u (omega (arith, c .if1 .taken))))
@@ -114,7 +115,7 @@ returns-3 c =
     let at = c .before .before .before .before .before .before .before .before .loop .inv in
     let more = c .before .before .before .before .before .before .before .loop-test .taken in
     let breach = environment-low (isController (c .before .before .before .before .before .before .before .before .before .before .before .before .line-at .result)) _ (c .if4 .taken) in
-    let seen = move-seen (at .2) (c .before .before .before .before .before .before .before .before .before .before .before .before .before .before .before .before .before .before .before .before .before .before .before .pre .1) more (c .before .before .before .before .before .if3 .left) (c .before .before .before .see .ensures) (at .1) (c .before .before .before .before .target-at .ensures) in
+    let seen = move-seen (at .2) (c .before .before .before .before .before .before .before .before .before .before .before .before .before .before .before .before .before .before .before .before .before .before .before .before .pre .1) more (c .before .before .before .before .before .if3 .left) (c .before .before .before .see .ensures) (at .1) (c .before .before .before .before .target-at .ensures ∙ ranked-target (c .before .before .before .before .before .before .before .before .before .before .before .before .before .before .before .before .before .before .before .before .before .before .before .before .args .costs .now) (c .before .before .before .before .before .before .before .before .before .before .before .before .before .before .before .before .before .before .before .before .before .before .before .before .args .tos .now) (c .before .before .before .before .before .before .before .before .loop .i) (c .before .before .before .before .before .before .before .before .before .before .before .before .before .before .before .before .before .before .before .before .before .before .before .before .pre .3) (c .before .before .before .before .before .before .before .before .before .before .before .before .before .before .before .before .before .before .before .before .before .before .before .before .pre .0 .to-inside _ more)) in
     let low = low-fault seen (omega (arith, more)) (sym (ap isController (at .1)) ∙ breach .0) (breach .1) in
     sym (first-fault _ _ _ _ _ (c .before .before .before .before .before .before .before .before .before .before .before .before .before .if1 .left) (at .2 .clean) low (λ z. omega arith))
 
@@ -123,7 +124,7 @@ returns-4 c =
     let at = c .before .before .before .loop .inv in
     let over = ⊎-elim (λ w. inl (w .left)) (λ w. inr (w .2 .taken)) (c .before .before .loop-test .came) in
     let late = ap (λ (l : Line). afterMoves l (c .before .before .before .loop .seen)) (sym (at .1)) ∙ sym (c .before .after-moves .ensures) in
-    sym (first-fault _ _ _ _ _ (c .before .before .before .before .before .before .before .before .if1 .left) (at .2 .clean) (moves-seen (at .2) (c .before .before .before .before .before .before .before .before .before .before .before .before .before .before .before .before .before .before .pre .1) (at .0) over ∙ late) (c .if5 .taken))
+    sym (first-fault _ _ _ _ _ (c .before .before .before .before .before .before .before .before .if1 .left) (at .2 .clean) (moves-seen (at .2) (c .before .before .before .before .before .before .before .before .before .before .before .before .before .before .before .before .before .before .before .pre .1) (at .0) over ∙ late) (c .if5 .taken))
 
 pub first-fault-spec : {M : Type 1} → statement M
 first-fault-spec =

@@ -5,10 +5,10 @@ use Rattle.reference_test.proofs.compare.weigh_controllers.Statement.{s
 use Rattle.reference_test.proofs.compare.weigh_controllers.Tie as tie
 
 abbrev Inv-loop : tie.InvT-loop
-Inv-loop chart text seed₀ tally₀ i₀ seed tally i = i ≤ 4
+Inv-loop chart solved text seed₀ tally₀ i₀ seed tally i = i ≤ 4
 
 abbrev μ-loop : tie.MeasureT-loop
-μ-loop chart text seed₀ tally₀ i₀ seed tally i = 4 - i
+μ-loop chart solved text seed₀ tally₀ i₀ seed tally i = 4 - i
 
 loop-holds : tie.Need-loop-holds Inv-loop μ-loop
 loop-holds c = search needs

@@ -1,0 +1,36 @@
+//! The stack that each of the library's jobs uses.
+
+use crate::capi::{self, Run, NONE};
+use crate::chart::{Chart, POSITIONS};
+use crate::measure::stack;
+use crate::model::Subject;
+use crate::tally::JOBS;
+
+/// The most that a call wants, as the header says.
+pub const MOST: usize = 96 << 10;
+
+/// The bytes of stack of each job on an accepted chart with its own plate.
+pub fn stacks(chart: &Chart) -> Vec<(&'static str, usize)> {
+    let text = chart.text();
+    let subject = Subject::new(&text);
+    let (_, plate) = subject.write(22 * (chart.len() + 1));
+    let choices = &subject.valuation(chart).choices;
+    let (text, plate) = (text.as_slice(), plate.as_slice());
+    let mut rows = [[0u16; POSITIONS]; 3];
+    let [values, others, steps] = &mut rows;
+    let mut written = [0u8; 22 * (POSITIONS + 1)];
+    let taken = |number| assert_eq!(number, 0, "nothing was refused");
+    let run = Run { position: 0, seen: 0, initial: 0 };
+    let to = if choices[0] == NONE { chart.positions[0].meant[0] } else { choices[0] };
+    let bytes = [
+        stack(|| taken(capi::value(text, values, others, steps).refusal.number)),
+        stack(|| taken(capi::write(text, &mut written).refusal.number)),
+        stack(|| taken(capi::read(text, plate, values, others, steps).refusal.number)),
+        stack(|| taken(capi::check(text, plate).number)),
+        stack(|| taken(capi::weigh(text, choices, values).number)),
+        stack(|| taken(capi::compare(text, plate, choices).refusal.number)),
+        stack(|| taken(capi::start(text, plate, 0).refusal.number)),
+        stack(|| taken(capi::report(run, text, plate, usize::from(to)).refusal.number)),
+    ];
+    JOBS.into_iter().zip(bytes).collect()
+}

@@ -1,0 +1,157 @@
+-- `walk::walk_positions` meets its contract. The invariant: the first v lines are good, and the rows are filled up to v.
+use Prim.Native.Nat.{ℕ, _+_, _≤_, _-_}
+use native.Mathlib.Omega.{arith}
+use mathlib.Core.Path.{_≡_, sym, subst}
+use borrow.Author.Count.{below-more}
+use denote.Ref.{now}
+use Rattle.rows.specs.Filling.{filled-none, filled-more, filled-kept}
+use Rattle.chart.specs.Text.{letterAt}
+use Rattle.chart.specs.Good.{GoodPosition}
+use Rattle.walk.specs.Walked.{PositionsPassed}
+use Rattle.walk.specs.WalkLaws.{stopped, went-on, owner-fits, spelt-fits, position-stands}
+use Rattle.walk.proofs.walk_positions.Statement.{statement}
+use Rattle.walk.proofs.walk_positions.Tie as tie
+
+abbrev Inv-loop : tie.InvT-loop
+Inv-loop text n words owners₀ marks₀ v₀ owners marks v = (v ≤ n) × PositionsPassed text v owners₀ owners marks₀ marks
+
+abbrev μ-loop : tie.MeasureT-loop
+μ-loop text n words owners₀ marks₀ v₀ owners marks v = n - v
+
+loop-holds : tie.Need-loop-holds Inv-loop μ-loop
+loop-holds c = (omega arith, record { good = λ v h. absurd (omega arith); rows = record { owner = filled-none _ _; mark = filled-none _ _ } })
+
+add-at : tie.Need-add-at Inv-loop μ-loop
+add-at c = omega arith
+
+mul-at : tie.Need-mul-at Inv-loop μ-loop
+mul-at c = omega arith
+
+shared-slice-read-owner : tie.Need-shared-slice-read-owner Inv-loop μ-loop
+shared-slice-read-owner c = omega arith
+
+owner-requires : tie.Need-owner-requires Inv-loop μ-loop
+owner-requires c κs = tt
+
+add-mark : tie.Need-add-mark Inv-loop μ-loop
+add-mark c = omega arith
+
+shared-slice-read-mark : tie.Need-shared-slice-read-mark Inv-loop μ-loop
+shared-slice-read-mark c = omega arith
+
+cast-line-is : tie.Need-cast-line-is Inv-loop μ-loop
+cast-line-is c = omega arith
+
+mul-line-is : tie.Need-mul-line-is Inv-loop μ-loop
+mul-line-is c = omega arith
+
+sub-line-is : tie.Need-sub-line-is Inv-loop μ-loop
+sub-line-is c = omega (arith, owner-fits _ _ (c .before .owner .ensures))
+
+mul-line-is-2 : tie.Need-mul-line-is-2 Inv-loop μ-loop
+mul-line-is-2 c = omega arith
+
+shared-slice-read-line-is : tie.Need-shared-slice-read-line-is Inv-loop μ-loop
+shared-slice-read-line-is c = omega arith
+
+cast-spell : tie.Need-cast-spell Inv-loop μ-loop
+cast-spell c = omega arith
+
+spell-requires : tie.Need-spell-requires Inv-loop μ-loop
+spell-requires c κs = omega arith
+
+line-is-requires : tie.Need-line-is-requires Inv-loop μ-loop
+line-is-requires c κs = (omega arith, (omega arith, spelt-fits _ _ (c .spell .ensures)))
+
+same-length : tie.Need-same-length Inv-loop μ-loop
+same-length c = c .before .before .before .before .before .before .before .before .loop .inv .1 .rows .owner .same-length
+
+same-length-2 : tie.Need-same-length-2 Inv-loop μ-loop
+same-length-2 c = c .before .before .before .before .before .before .before .before .loop .inv .1 .rows .mark .same-length
+
+returns : tie.Need-returns Inv-loop μ-loop
+returns c =
+    let inv = c .before .before .before .before .before .before .before .before .loop .inv in
+    record { told = stopped; owners-kept = filled-kept (inv .0) (inv .1 .rows .owner); marks-kept = filled-kept (inv .0) (inv .1 .rows .mark) }
+
+slice-write-owners : tie.Need-slice-write-owners Inv-loop μ-loop
+slice-write-owners c = omega arith
+
+slice-write-marks : tie.Need-slice-write-marks Inv-loop μ-loop
+slice-write-marks c = omega arith
+
+add-v : tie.Need-add-v Inv-loop μ-loop
+add-v c = omega arith
+
+loop-less : tie.Need-loop-less Inv-loop μ-loop
+loop-less c = omega arith
+
+loop-again : tie.Need-loop-again Inv-loop μ-loop
+unfolding letterAt
+loop-again c =
+    let head = c .before .before .before .before .before .before .before .before in
+    let start = head .before .before .before .before .before in
+    let inv = head .loop .inv in
+    let v = head .loop .v in
+    let owner = c .before .before .before .before .before .owner .ensures in
+    let words = rw (start .pre .1 .0 .0 v (omega arith), c .before .before .spell .ensures) at (c .before .line-is .ensures (went-on _ (c .if1 .left))) in
+    let stands = position-stands (now (start .args .text)) v _ _ (omega arith) owner (omega arith) words in (
+      omega arith,
+      record {
+        good = below-more (λ (k : ℕ). GoodPosition (now (start .args .text)) (k + 1)) v (inv .1 .good) (stands .good);
+        rows = record {
+          owner = filled-more _ _ v _ _ (inv .1 .rows .owner) (omega arith) owner;
+          mark = filled-more _ _ v _ _ (inv .1 .rows .mark) (omega arith) (sym (stands .mark-is));
+        };
+      },
+    )
+
+same-length-3 : tie.Need-same-length-3 Inv-loop μ-loop
+same-length-3 c = c .before .loop .inv .1 .rows .owner .same-length
+
+same-length-4 : tie.Need-same-length-4 Inv-loop μ-loop
+same-length-4 c = c .before .loop .inv .1 .rows .mark .same-length
+
+returns-2 : tie.Need-returns-2 Inv-loop μ-loop
+returns-2 c =
+    let inv = c .before .loop .inv in
+    let a = c .before .before .before .before .before .before .args in
+    let e : c .before .loop .v ≡ a .n = omega arith in
+    record {
+      told = λ _. subst (λ (k : ℕ). PositionsPassed (now (a .text)) k (now (a .owners)) (c .before .loop .owners) (now (a .marks)) (c .before .loop .marks)) e (inv .1);
+      owners-kept = filled-kept (inv .0) (inv .1 .rows .owner);
+      marks-kept = filled-kept (inv .0) (inv .1 .rows .mark);
+    }
+
+pub walk-positions-spec : {M : Type 1} → statement M
+walk-positions-spec =
+    tie.close
+    (tie.spec
+    Inv-loop
+    μ-loop
+    loop-holds
+    add-at
+    mul-at
+    shared-slice-read-owner
+    owner-requires
+    add-mark
+    shared-slice-read-mark
+    cast-line-is
+    mul-line-is
+    sub-line-is
+    mul-line-is-2
+    shared-slice-read-line-is
+    cast-spell
+    spell-requires
+    line-is-requires
+    same-length
+    same-length-2
+    returns
+    slice-write-owners
+    slice-write-marks
+    add-v
+    loop-less
+    loop-again
+    same-length-3
+    same-length-4
+    returns-2)

@@ -1,0 +1,301 @@
+-- From words to an accepted text: a line with the words of two numbers reads as them, so its finding is clean; ranks that rise are moves
+-- that rise; and a position is passed only by a meant move from it.
+use Prim.Native.Nat.{ℕ, _+_, _-_, _*_, _%_, _≤_, _<_}
+use native.Mathlib.Omega.{arith}
+use native.Mathlib.Decide.{decLe}
+use native.Mathlib.Numerals.{add-one}
+use mathlib.Core.Path.{_≡_, refl, sym, ap, subst, _∙_}
+use mathlib.Core.Logic.{_⊎_, inl, inr, ⊎-elim}
+use mathlib.Core.Bool.{Bool, true, false, cond, not}
+use mathlib.Core.List.{List}
+use lib.ListN.{length, getD}
+use lib.Dec.{ltb}
+use borrow.Author.Count.{below-more}
+use borrow.Author.Tests.{ltb-true, ltb-false, eq-eqb, lt-ltb}
+use Rattle.field.specs.Text.{placeByte}
+use Rattle.field.specs.declared.Field.{Field}
+use Rattle.field.specs.declared.Field.the-variants.{Number}
+use Rattle.game.specs.Arena.{Owner, controller, environment}
+use Rattle.rows.specs.Rows.{ownerNumber}
+use Rattle.rows.specs.declared.Chart.{Chart}
+use Rattle.spelling.specs.Words.{spelt}
+use Rattle.spelling.specs.WordLaws.{word-bytes, place-small, spelt-reads}
+use Rattle.chart.specs.Text.{letterAt, firstAt, secondAt, endAt, markAt, fieldNumber, positionsOf, movesOf, fromAt, toAt}
+use Rattle.chart.specs.Meaning.{ownerOf, costOf}
+use Rattle.chart.specs.Examined.{above, rises, meantLine, meantIn, headerFormed, headerOf}
+use Rattle.chart.specs.Header.{WithinLimits, header-accepts}
+use Rattle.chart.specs.Accepted.{cost-small}
+use Rattle.chart.specs.Good.{Formed, GoodPosition, GoodMove, header-form}
+use Rattle.chart.specs.Taken.{good-accepted}
+use Rattle.chart.specs.Lines.{Reads}
+use Rattle.chart.specs.declared.Examination.the-variants.{Accepted}
+use Rattle.walk.specs.Walked.{LineWords, Tables, MoveStands, PositionsPassed, MovesPassed, Passed}
+
+-- a walk that stopped has not passed
+pub stopped : {A : Type 0} → false ≡ true → A
+stopped e = let z : _≡_ {A = ℕ} 0 1 = cc in absurd (omega arith)
+
+-- and one that did not stop at a test has passed it
+pub went-on : (b : Bool) → not b ≡ false → b ≡ true
+went-on true e = refl
+went-on false e = stopped (sym e)
+
+-- the word of a number has three bytes
+spelt-small : (x : ℕ) → spelt x < 16777216
+unfolding spelt
+spelt-small x =
+    let c = place-small x 100 in
+    let d = place-small x 10 in
+    omega arith
+
+-- a byte by another name of its place
+byte : (text : List ℕ) (p q z : ℕ) → p ≡ q → getD text q 0 ≡ z → getD text p 0 ≡ z
+byte text p q z e h = ap (λ (k : ℕ). getD text k 0) e ∙ h
+
+-- a line with the words of two numbers reads as them
+pub words-read : (text : List ℕ) (i letter x y : ℕ) → letter < 256 → x < 1000 → y < 1000 → LineWords text (i * 12) letter (spelt x) (spelt y) → Reads text i letter x y
+unfolding spelt letterAt firstAt secondAt endAt
+words-read text i letter x y l h k w =
+    let c = place-small x 100 in
+    let d = place-small x 10 in
+    let f = place-small y 100 in
+    let g = place-small y 10 in
+    let one = word-bytes text (i * 12) _ letter 32 32 (placeByte x 100) (w .opening) (l, omega arith, omega arith, omega arith) (omega arith) in
+    let two = word-bytes text (i * 12 + 4) _ (placeByte x 10) (48 + x % 10) 32 32 (w .middle) (omega arith, omega arith, omega arith, omega arith) (omega arith) in
+    let three = word-bytes text (i * 12 + 8) _ (placeByte y 100) (placeByte y 10) (48 + y % 10) 10 (w .closing) (omega arith, omega arith, omega arith, omega arith) (omega arith) in
+    record {
+      letter-is = one .0;
+      first-is = spelt-reads text (i * 12 + 1) x h (one .1) (byte text _ _ _ (omega arith) (one .2))
+          (record { hundreds = byte text _ _ _ (omega arith) (one .3); tens = byte text _ _ _ (omega arith) (two .0); units = byte text _ _ _ (omega arith) (two .1) });
+      second-is = spelt-reads text (i * 12 + 6) y k (byte text _ _ _ (omega arith) (two .2)) (byte text _ _ _ (omega arith) (two .3))
+          (record { hundreds = byte text _ _ _ (omega arith) (three .0); tens = byte text _ _ _ (omega arith) (three .1); units = byte text _ _ _ (omega arith) (three .2) });
+      end-is = byte text _ _ _ (omega arith) (three .3);
+    }
+
+-- a field that reads as a number
+numbered : (f : Field) (x : ℕ) → f ≡ Number x → (f ≡ Number (fieldNumber f)) × (fieldNumber f ≡ x)
+unfolding fieldNumber
+numbered f x e = (e ∙ ap (λ (g : Field). Number (fieldNumber g)) (sym e), ap fieldNumber e)
+
+-- the form of a line that reads so
+reads-formed : (text : List ℕ) (i letter x y a b : ℕ) → Reads text i letter x y → (letter ≡ a) ⊎ (letter ≡ b) → Formed (letterAt text i) (firstAt text i) (secondAt text i) (endAt text i) a b
+reads-formed text i letter x y a b r w =
+    record {
+      allowed = ⊎-elim (λ p. inl (r .letter-is ∙ p)) (λ p. inr (r .letter-is ∙ p)) w;
+      first-number = numbered (firstAt text i) x (r .first-is) .0;
+      second-number = numbered (secondAt text i) y (r .second-is) .0;
+      ends = r .end-is;
+    }
+
+pub reads-from : (text : List ℕ) (i letter x y : ℕ) → Reads text i letter x y → fromAt text i ≡ x
+unfolding fromAt
+reads-from text i letter x y r = numbered (firstAt text i) x (r .first-is) .1
+
+pub reads-to : (text : List ℕ) (i letter x y : ℕ) → Reads text i letter x y → toAt text i ≡ y
+unfolding toAt
+reads-to text i letter x y r = numbered (secondAt text i) y (r .second-is) .1
+
+pub reads-mark : (text : List ℕ) (i letter x y : ℕ) → Reads text i letter x y → fieldNumber (markAt text i) ≡ y
+unfolding markAt
+reads-mark text i letter x y r = numbered (secondAt text i) y (r .second-is) .1
+
+-- a position's line
+pub position-good : (text : List ℕ) (v letter mark : ℕ) → (letter ≡ 79) ⊎ (letter ≡ 76) → mark ≤ 1 → Reads text (v + 1) letter v mark → GoodPosition text (v + 1)
+unfolding markAt
+position-good text v letter mark w small r =
+    record {
+      form = reads-formed text (v + 1) letter v mark 79 76 r w;
+      in-order = reads-from text (v + 1) letter v mark r ∙ omega arith;
+      small = subst (λ (k : ℕ). k ≤ 1) (sym (reads-mark text (v + 1) letter v mark r)) small;
+    }
+
+owner-small : (o : Owner) → ownerNumber o ≤ 1
+owner-small controller = omega arith
+owner-small environment = omega arith
+
+-- what bounds the numbers that the tests compare
+pub spelt-fits : (word x : ℕ) → word ≡ spelt x → word < 16777216
+spelt-fits word x e = rw e (spelt-small x)
+
+pub owner-fits : (owner letter : ℕ) → owner ≡ ownerNumber (ownerOf letter) → owner ≤ 1
+owner-fits owner letter e = rw e (owner-small (ownerOf letter))
+
+pub cost-fits : (cost letter : ℕ) → cost ≡ costOf letter → cost ≤ 1
+cost-fits cost letter e = omega (arith, cost-small letter, e)
+
+-- what the tables of n positions hold at one of them
+module _ (text : List ℕ) (n : ℕ) (words owners : List ℕ) (tables : Tables text n words owners) where
+  pub table-word : (v : ℕ) → v < n → getD words v 0 < 16777216
+  table-word v h = rw (tables .word v h) (spelt-small v)
+
+  pub table-owner : (v : ℕ) → v < n → getD owners v 0 ≤ 1
+  table-owner v h = rw (tables .owner v h) (owner-small (ownerOf (letterAt text (v + 1))))
+
+  lane-owner : (v : ℕ) → v < n → letterAt text (v + 1) ≡ 76 → getD owners v 0 ≡ 1
+  unfolding ownerOf
+  lane-owner v h e = tables .owner v h ∙ ap (λ (letter : ℕ). ownerNumber (ownerOf letter)) e
+
+  -- a line with the words of two positions is a move between them
+  pub move-stands : (line from to cost : ℕ) → from < n → to < n → cost ≡ costOf (letterAt text line) → cost + getD owners from 0 ≤ 1 →
+      LineWords text (line * 12) (77 - 9 * cost) (getD words from 0) (getD words to 0) → MoveStands text n line from to
+  move-stands line from to cost f t is free w =
+      let few = tables .few in
+      let small = cost-fits cost (letterAt text line) is in
+      record {
+        from-position = f;
+        to-position = t;
+        letter = 77 - 9 * cost;
+        reads = words-read text line (77 - 9 * cost) from to (omega arith) (omega arith) (omega arith) (rw (tables .word from f, tables .word to t) at w);
+        allowed = go (decLe cost 0);
+        undisturbed = λ p q. let lane = lane-owner from f q in omega arith;
+      }
+    where
+      go : Dec (cost ≤ 0) → (77 - 9 * cost ≡ 77) ⊎ (77 - 9 * cost ≡ 68)
+      go (yes l) = inl (omega arith)
+      go (no l) = inr (omega (arith, cost-fits cost (letterAt text line) is))
+
+-- a line with the words of position v and of a mark is that position's
+pub record PositionStands (text : List ℕ) (v mark : ℕ) : Type 0 where
+  pub good : GoodPosition text (v + 1)
+  pub mark-is : fieldNumber (markAt text (v + 1)) ≡ mark
+
+pub position-stands : (text : List ℕ) (v owner mark : ℕ) → v < 1000 → owner ≡ ownerNumber (ownerOf (letterAt text (v + 1))) → mark ≤ 1 →
+    LineWords text ((v + 1) * 12) (79 - 3 * owner) (spelt v) (spelt mark) → PositionStands text v mark
+position-stands text v owner mark h is small w =
+    let one = owner-fits owner (letterAt text (v + 1)) is in
+    let r = words-read text (v + 1) (79 - 3 * owner) v mark (omega arith) h (omega arith) w in
+    record { good = position-good text v (79 - 3 * owner) mark (go (decLe owner 0)) small r; mark-is = reads-mark text (v + 1) (79 - 3 * owner) v mark r }
+  where
+    go : Dec (owner ≤ 0) → (79 - 3 * owner ≡ 79) ⊎ (79 - 3 * owner ≡ 76)
+    go (yes l) = inl (omega arith)
+    go (no l) = inr (omega (arith, owner-fits owner (letterAt text (v + 1)) is))
+
+-- the rank of a move: from above its cost above to
+unfoldable pub rankOf : ℕ → ℕ → ℕ → ℕ
+rankOf from cost to = (2 * from + cost) * 512 + to
+
+unfoldable pub rankAt : List ℕ → ℕ → ℕ
+rankAt text i = rankOf (fromAt text i) (costOf (letterAt text i)) (toAt text i)
+
+-- a higher rank is a move above
+rank-above : (from₀ cost₀ to₀ from cost to : ℕ) → cost₀ ≤ 1 → cost ≤ 1 → to₀ < 512 → to < 512 → rankOf from₀ cost₀ to₀ < rankOf from cost to → above from₀ cost₀ to₀ from cost to ≡ true
+unfolding above rankOf
+rank-above from₀ cost₀ to₀ from cost to a b c d h = go (ltb from₀ from) (ltb from from₀) (ltb cost₀ cost) (ltb cost cost₀) refl refl refl refl
+  where
+    go : (p q r s : Bool) → ltb from₀ from ≡ p → ltb from from₀ ≡ q → ltb cost₀ cost ≡ r → ltb cost cost₀ ≡ s → above from₀ cost₀ to₀ from cost to ≡ true
+    go true q r s t u v w = simp t
+    go false true r s t u v w = absurd (omega (arith, ltb-false from₀ from t, ltb-true from from₀ u))
+    go false false true s t u v w = simp (t, u, v)
+    go false false false true t u v w = absurd (omega (arith, ltb-false from₀ from t, ltb-false from from₀ u, ltb-false cost₀ cost v, ltb-true cost cost₀ w))
+    go false false false false t u v w =
+        simp (t, u, v, w) (lt-ltb to₀ to (omega (arith, ltb-false from₀ from t, ltb-false from from₀ u, ltb-false cost₀ cost v, ltb-false cost cost₀ w)))
+
+meant-letter : (letter : ℕ) → (letter ≡ 77) ⊎ (letter ≡ 68) → costOf letter ≡ 0 → letter ≡ 77
+unfolding costOf
+meant-letter letter w e = ⊎-elim (λ p. p) (λ p. let z : 1 ≡ 0 = sym (ap costOf p) ∙ e in absurd (omega arith)) w
+
+-- what the first i move lines are known to be
+pub record SoFar (text : List ℕ) (n i lowest limit : ℕ) : Type 0 where
+  pub good : (j : ℕ) → j < i → GoodMove text n (n + 1 + j)
+  pub before : 1 ≤ i → rankAt text (n + 1 + i - 1) < lowest
+  pub meant : (v : ℕ) → v * 1024 + 512 < limit → meantIn text n i v ≡ true
+
+pub so-far-none : (text : List ℕ) (n : ℕ) → SoFar text n 0 0 512
+so-far-none text n = record { good = λ j h. absurd (omega arith); before = λ h. absurd (omega arith); meant = λ v h. absurd (omega arith) }
+
+module _ (text : List ℕ) (n i lowest limit from cost to : ℕ) (few : n ≤ 512) (so-far : SoFar text n i lowest limit) (stands : MoveStands text n (n + 1 + i) from to)
+    (is : cost ≡ costOf (letterAt text (n + 1 + i))) (low : lowest ≤ rankOf from cost to) (high : rankOf from cost to < limit) where
+  from-is : fromAt text (n + 1 + i) ≡ from
+  from-is = reads-from text (n + 1 + i) (stands .letter) from to (stands .reads)
+
+  to-is : toAt text (n + 1 + i) ≡ to
+  to-is = reads-to text (n + 1 + i) (stands .letter) from to (stands .reads)
+
+  rank-is : rankAt text (n + 1 + i) ≡ rankOf from cost to
+  unfolding rankAt
+  rank-is = simp (from-is, to-is, is)
+
+  line-good : GoodMove text n (n + 1 + i)
+  unfolding rises rankAt
+  line-good =
+      record {
+        form = reads-formed text (n + 1 + i) (stands .letter) from to 77 68 (stands .reads) (stands .allowed);
+        from-position = rw from-is (stands .from-position);
+        to-position = rw to-is (stands .to-position);
+        owner = λ p q. stands .undisturbed (sym (stands .reads .letter-is) ∙ p) (ap (λ (v : ℕ). letterAt text (v + 1)) (sym from-is) ∙ q);
+        above = λ h.
+            let some : 1 ≤ i = omega arith in
+            let last = so-far .good (i - 1) (omega arith) .to-position in
+            let name : n + 1 + (i - 1) ≡ n + 1 + i - 1 = omega arith in
+            let to₀ : toAt text (n + 1 + i - 1) < n = subst (λ (k : ℕ). toAt text k < n) name last in
+            let to₁ : toAt text (n + 1 + i) < n = rw to-is (stands .to-position) in
+            rank-above (fromAt text (n + 1 + i - 1)) (costOf (letterAt text (n + 1 + i - 1))) (toAt text (n + 1 + i - 1))
+            (fromAt text (n + 1 + i)) (costOf (letterAt text (n + 1 + i))) (toAt text (n + 1 + i))
+            (cost-fits _ (letterAt text (n + 1 + i - 1)) refl) (cost-fits _ (letterAt text (n + 1 + i)) refl) (omega arith) (omega arith) (omega (arith, so-far .before some, rank-is));
+      }
+
+  meant-next : (v : ℕ) → v * 1024 + 512 < from * 1024 + 1536 → meantIn text n (i + 1) v ≡ true
+  unfolding meantIn meantLine rankOf
+  meant-next v h = rw add-one (go (decLe (v * 1024 + 513) limit))
+    where
+      either : (b : Bool) → cond b true true ≡ true
+      either true = refl
+      either false = refl
+
+      go : Dec (v * 1024 + 513 ≤ limit) → cond (meantIn text n i v) true (meantLine text (n + 1 + i) v) ≡ true
+      go (yes l) = simp (so-far .meant v (omega arith))
+      go (no l) =
+          let free : costOf (letterAt text (n + 1 + i)) ≡ 0 = omega arith in
+          let same : from ≡ v = omega arith in
+          let allowed = ⊎-elim (λ p. inl (stands .reads .letter-is ∙ p)) (λ p. inr (stands .reads .letter-is ∙ p)) (stands .allowed) in
+          let letter : letterAt text (n + 1 + i) ≡ 77 = meant-letter (letterAt text (n + 1 + i)) allowed free in
+          simp (eq-eqb (letterAt text (n + 1 + i)) 77 letter, eq-eqb (fromAt text (n + 1 + i)) v (from-is ∙ same)) (either (meantIn text n i v))
+
+  pub so-far-next : SoFar text n (i + 1) (rankOf from cost to + 1) (from * 1024 + 1536)
+  so-far-next =
+      record {
+        good = below-more (λ (j : ℕ). GoodMove text n (n + 1 + j)) i (so-far .good) line-good;
+        before = λ h.
+            let name : n + 1 + i ≡ n + 1 + (i + 1) - 1 = omega arith in
+            subst (λ (k : ℕ). rankAt text k < rankOf from cost to + 1) name (omega (arith, rank-is));
+        meant = meant-next;
+      }
+
+-- what a good header says of the counts and the length
+pub record HeaderFits (text : List ℕ) (chart : Chart) : Type 0 where
+  pub positions : chart .positions ≤ 512
+  pub moves : chart .moves ≤ 4096
+  pub lines : length text ≡ (1 + chart .positions + chart .moves) * 12
+
+pub header-fits : (text : List ℕ) (chart : Chart) → headerOf text ≡ Accepted chart → HeaderFits text chart
+header-fits text chart e =
+    let w = header-accepts text chart e in
+    subst (λ (k : Chart). HeaderFits text k) (sym (w .1)) (record { positions = w .0 .positions; moves = w .0 .moves; lines = w .0 .lines })
+
+-- lines that are good after a good header are an accepted text
+counts-pass : (text : List ℕ) (owners₀ owners marks₀ marks costs₀ costs froms₀ froms tos₀ tos : List ℕ) →
+    WithinLimits (headerFormed text) (length text) (positionsOf text) (movesOf text) →
+    PositionsPassed text (positionsOf text) owners₀ owners marks₀ marks → MovesPassed text (positionsOf text) (movesOf text) costs₀ costs froms₀ froms tos₀ tos →
+    Passed text (record { positions = positionsOf text; moves = movesOf text }) owners₀ owners marks₀ marks costs₀ costs froms₀ froms tos₀ tos
+counts-pass text owners₀ owners marks₀ marks costs₀ costs froms₀ froms tos₀ tos l p m =
+    record {
+      accepted = good-accepted text (record {
+        form = header-form text (l .form);
+        limits = l;
+        position = λ i a b. let e : i - 1 + 1 ≡ i = omega arith in subst (λ (k : ℕ). GoodPosition text k) e (p .good (i - 1) (omega arith));
+        move = λ i a b. let e : positionsOf text + 1 + (i - positionsOf text - 1) ≡ i = omega arith in subst (λ (k : ℕ). GoodMove text (positionsOf text) k) e (m .good (i - positionsOf text - 1) (omega arith));
+        meant = m .meant;
+      });
+      positions = p .rows;
+      moves = m .rows;
+    }
+
+pub lines-pass : (text : List ℕ) (chart : Chart) (owners₀ owners marks₀ marks costs₀ costs froms₀ froms tos₀ tos : List ℕ) → headerOf text ≡ Accepted chart →
+    PositionsPassed text (chart .positions) owners₀ owners marks₀ marks → MovesPassed text (chart .positions) (chart .moves) costs₀ costs froms₀ froms tos₀ tos →
+    Passed text chart owners₀ owners marks₀ marks costs₀ costs froms₀ froms tos₀ tos
+lines-pass text chart owners₀ owners marks₀ marks costs₀ costs froms₀ froms tos₀ tos e =
+    let w = header-accepts text chart e in
+    subst (λ (k : Chart).
+    PositionsPassed text (k .positions) owners₀ owners marks₀ marks → MovesPassed text (k .positions) (k .moves) costs₀ costs froms₀ froms tos₀ tos →
+    Passed text k owners₀ owners marks₀ marks costs₀ costs froms₀ froms tos₀ tos)
+    (sym (w .1)) (counts-pass text owners₀ owners marks₀ marks costs₀ costs froms₀ froms tos₀ tos (w .0))

@@ -1,0 +1,189 @@
+// A chart read in one walk: each line is compared with the words that it must have, and the rows are written on the way. A walk that
+// passes is an accepted text (specs/Walked.antt); one that stops says nothing, and `chart::examine` answers.
+ghost use mathlib.Core.Path.{_≡_};
+ghost use mathlib.Core.Bool.{true};
+ghost use Prim.Native.Nat.{_+_, _*_, _≤_, _<_};
+ghost use lib.ListN.{length};
+ghost use Rattle.rows.specs.Rows.{RowIs, ownerNumber};
+ghost use Rattle.chart.specs.Meaning.{ownerOf};
+ghost use Rattle.chart.specs.Examined.{headerOf};
+ghost use Rattle.spelling.specs.Words.{spelt};
+ghost use Rattle.walk.specs.Walked.{LineWords, Tables, MoveStands, PositionsWalked, MovesWalked, WalkIs};
+use chart::Examination;
+use chart::cost;
+use rows::Chart;
+use spelling::spell;
+use spelling::spell_all;
+use spelling::word;
+
+// Walks over the lines after a header with these counts, which `chart::header` has taken. The rows are those of `decode::load`, with room for
+// every chart; what lies past the counts stays. Which accepted charts pass is left to the walk: nothing rests on it but the time.
+pub fn walk(
+    text: &[u8],
+    chart: Chart,
+    owners: &mut [u8],
+    marks: &mut [u8],
+    costs: &mut [u8],
+    froms: &mut [u16],
+    tos: &mut [u16],
+) -> bool
+    requires { ⌜ headerOf (now text) ≡ Examination.Accepted chart ⌝ }
+    requires { ⌜ (512 ≤ length (now owners)) × (512 ≤ length (now marks)) ⌝ }
+    requires { ⌜ (4096 ≤ length (now costs)) × (4096 ≤ length (now froms)) × (4096 ≤ length (now tos)) ⌝ }
+    ensures { λ r. ⌜ WalkIs (now (text .entry)) chart r (now (owners .entry)) (now (owners .exit)) (now (marks .entry)) (now (marks .exit)) (now (costs .entry)) (now (costs .exit)) (now (froms .entry)) (now (froms .exit)) (now (tos .entry)) (now (tos .exit)) ⌝ }
+{
+    let n = chart.positions;
+    let m = chart.moves;
+    let mut words = [0u32; Chart::POSITIONS];
+    spell_all(n, &mut words);
+    if !walk_positions(text, n, &words, owners, marks) {
+        return false;
+    }
+    walk_moves(text, n, m, &words, owners, costs, froms, tos)
+}
+
+// The position lines: the letter O (79) or L (76), the number in order, the mark 0 or 1.
+fn walk_positions(text: &[u8], n: usize, words: &[u32], owners: &mut [u8], marks: &mut [u8]) -> bool
+    requires { ⌜ (n ≤ 512) × ((n + 1) * 12 ≤ length (now text)) ⌝ }
+    requires { ⌜ RowIs (now words) n spelt × (n ≤ length (now words)) ⌝ }
+    requires { ⌜ (n ≤ length (now owners)) × (n ≤ length (now marks)) ⌝ }
+    ensures { λ r. ⌜ PositionsWalked (now (text .entry)) n r (now (owners .entry)) (now (owners .exit)) (now (marks .entry)) (now (marks .exit)) ⌝ }
+{
+    let mut v: usize = 0;
+    while v < n {
+        let at = (v + 1) * Chart::LINE;
+        let owner = owner(text[at]);
+        let mark = text[at + 10] % 2;
+        if !line_is(
+            text,
+            at,
+            79 - 3 * owner as u32,
+            words[v],
+            spell(mark as usize),
+        ) {
+            return false;
+        }
+        owners[v] = owner;
+        marks[v] = mark;
+        v += 1;
+    }
+    true
+}
+
+// The move lines. Moves rise where their ranks do, which have from above cost above to. A rank stays below `limit`, where the disturbances
+// of the position after the last line's begin: so each line is from the last line's position or is a meant move from the next one, and no
+// position is left without a meant move.
+fn walk_moves(
+    text: &[u8],
+    n: usize,
+    m: usize,
+    words: &[u32],
+    owners: &[u8],
+    costs: &mut [u8],
+    froms: &mut [u16],
+    tos: &mut [u16],
+) -> bool
+    requires { ⌜ Tables (now text) n (now words) (now owners) ⌝ }
+    requires { ⌜ (m ≤ 4096) × ((n + 1 + m) * 12 ≤ length (now text)) ⌝ }
+    requires { ⌜ (m ≤ length (now costs)) × (m ≤ length (now froms)) × (m ≤ length (now tos)) ⌝ }
+    ensures { λ r. ⌜ MovesWalked (now (text .entry)) n m r (now (costs .entry)) (now (costs .exit)) (now (froms .entry)) (now (froms .exit)) (now (tos .entry)) (now (tos .exit)) ⌝ }
+{
+    let mut lowest: usize = 0;
+    let mut limit: usize = 512;
+    let mut i: usize = 0;
+    while i < m {
+        let line = n + 1 + i;
+        let at = line * Chart::LINE;
+        let from = first_guess(text, at);
+        let to = second_guess(text, at);
+        if !move_is(text, n, line, from, to, words, owners) {
+            return false;
+        }
+        let cost = cost(text[at]);
+        let rank = (2 * from + cost as usize) * 512 + to;
+        if rank < lowest {
+            return false;
+        }
+        if limit <= rank {
+            return false;
+        }
+        costs[i] = cost;
+        froms[i] = from as u16;
+        tos[i] = to as u16;
+        lowest = rank + 1;
+        limit = from * 1024 + 1536;
+        i += 1;
+    }
+    limit == n * 1024 + 512
+}
+
+// Whether a line is a move, M (77) or D (68), between these two numbers that may stand in a chart, its order aside.
+fn move_is(
+    text: &[u8],
+    n: usize,
+    line: usize,
+    from: usize,
+    to: usize,
+    words: &[u32],
+    owners: &[u8],
+) -> bool
+    requires { ⌜ Tables (now text) n (now words) (now owners) ⌝ }
+    requires { ⌜ (line + 1) * 12 ≤ length (now text) ⌝ }
+    ensures { λ r. ⌜ (r ≡ true → MoveStands (now (text .entry)) n line from to) ⌝ }
+{
+    if n <= from {
+        return false;
+    }
+    if n <= to {
+        return false;
+    }
+    let at = line * Chart::LINE;
+    let cost = cost(text[at]);
+    if 1 < cost + owners[from] {
+        return false;
+    }
+    line_is(text, at, 77 - 9 * cost as u32, words[from], words[to])
+}
+
+// Whether the twelve bytes from `at` are this letter, two spaces and the first word's three bytes, two spaces and the second word's, and a
+// line feed. A space is 0x20, a line feed 0x0a; the first byte of a word is the lowest.
+fn line_is(text: &[u8], at: usize, letter: u32, first: u32, second: u32) -> bool
+    requires { ⌜ at + 12 ≤ length (now text) ⌝ }
+    requires { ⌜ (letter < 256) × (second < 16777216) ⌝ }
+    ensures { λ r. ⌜ (r ≡ true → LineWords (now (text .entry)) at letter first second) ⌝ }
+{
+    if word(text, at) != letter + 0x0020_2000 + first % 256 * 0x0100_0000 {
+        return false;
+    }
+    if word(text, at + 4) != first / 256 + 0x2020_0000 {
+        return false;
+    }
+    word(text, at + 8) == second + 0x0a00_0000
+}
+
+// What the numbers of the line at `at` are if it has two of at most three digits. Nothing is tested: `move_is` tells.
+fn first_guess(text: &[u8], at: usize) -> usize
+    requires { ⌜ at + 12 ≤ length (now text) ⌝ }
+{
+    let middle = word(text, at + 4);
+    guess(word(text, at) / 0x0100_0000, middle, middle / 256)
+}
+
+fn second_guess(text: &[u8], at: usize) -> usize
+    requires { ⌜ at + 12 ≤ length (now text) ⌝ }
+{
+    let last = word(text, at + 8);
+    guess(last, last / 256, last / 65536)
+}
+
+// Three digits' worth: a digit's last four bits are its worth, and a space's are 0.
+fn guess(c: u32, d: u32, e: u32) -> usize {
+    (c % 16 * 100 + d % 16 * 10 + e % 16) as usize
+}
+
+// The controller is 0, the environment 1.
+pub fn owner(letter: u8) -> u8
+    ensures { λ r. ⌜ r ≡ ownerNumber (ownerOf letter) ⌝ }
+{
+    if letter == b'L' { 1 } else { 0 }
+}
