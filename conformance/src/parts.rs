@@ -1,7 +1,7 @@
 //! The parts of the test. Each takes every `shares`-th of its inputs, so that threads can divide them.
 
 pub mod controllers;
-mod damage;
+pub mod damage;
 pub mod damaged;
 pub mod drawn;
 pub mod examples;

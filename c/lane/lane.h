@@ -1,0 +1,96 @@
+/* What the parts of `lane` share. Every answer is the library's; what is here puts it into words. */
+#ifndef LANE_H
+#define LANE_H
+
+#include <stdbool.h>
+#include <stddef.h>
+#include <stdint.h>
+#include <stdio.h>
+
+#include "dushemqa.h"
+
+/* The exit status: 0, 1 or 2, the higher one where a command met both. */
+enum status {
+    TAKEN = 0,
+    REFUSED = 1, /* a sheet, choices or a report refused, or a plate faulted */
+    UNUSABLE = 2 /* usage, or a file that can't be read or written */
+};
+
+/* The words after a command's name, and whether its option was among them. */
+struct call {
+    char **words;
+    int count;
+    bool option;
+};
+
+/* The commands, one function each; lane.c has the table. */
+enum status plate_command(const struct call *call);
+enum status check_command(const struct call *call);
+enum status weigh_command(const struct call *call);
+enum status compare_command(const struct call *call);
+enum status run_command(const struct call *call);
+enum status collection_command(const struct call *call);
+enum status picture_command(const struct call *call);
+enum status explain_command(const struct call *call);
+
+/* A file's bytes: at most a limit and one more, so that a longer file is seen to be longer and is not cut. */
+struct text {
+    const char *name;
+    size_t length;
+    uint8_t bytes[DUSHEMQA_MAX_CHART_BYTES + 1];
+};
+
+/* files.c */
+int take_file(const char *name, size_t limit, struct text *text);
+bool read_file(const char *name, size_t limit, struct text *text);
+bool read_chart(const char *name, struct text *chart);
+bool read_plate(const char *name, struct text *plate);
+void complain(const char *name, const char *reason);
+bool flush_output(void);
+int shown_width(uint8_t byte);
+void show_bytes(FILE *out, const void *bytes, size_t length);
+void show_cut(FILE *out, const void *bytes, size_t length);
+void show_name(FILE *out, const char *name);
+void trim(const char **word, size_t *length);
+bool decimal(const char *word, size_t length, size_t *number);
+
+/* chart.c: the lines of a chart whose first line was taken. */
+const uint8_t *chart_line(const struct text *chart, size_t line);
+size_t first_field(const uint8_t *line);
+size_t second_field(const uint8_t *line);
+size_t positions(const struct text *chart);
+size_t moves(const struct text *chart);
+dushemqa_refusal examine(const struct text *chart);
+
+/* The rows that Valuing and Reading fill. */
+struct rows {
+    uint16_t values[DUSHEMQA_MAX_POSITIONS];
+    uint16_t choices[DUSHEMQA_MAX_POSITIONS];
+    uint16_t steps[DUSHEMQA_MAX_POSITIONS];
+};
+dushemqa_refusal value_rows(const struct text *chart, struct rows *rows);
+dushemqa_refusal read_rows(const struct text *chart, const struct text *plate, struct rows *rows);
+
+/* A number of a row as a word, `none` for DUSHEMQA_NONE. */
+struct word {
+    char letters[8];
+};
+struct word word_of(uint16_t number, const char *none);
+
+/* column.c: which parts of a chart's line a refusal is about, a bit for each. */
+enum { PARTS = 4 };
+struct part {
+    const char *name;
+    size_t column;
+    size_t length;
+};
+extern const struct part parts[PARTS];
+unsigned parts_at_fault(const struct text *chart, dushemqa_refusal refusal);
+
+/* words.c: refusals and faults in words. */
+const char *what_is_wrong(uint32_t number);
+void show_chart_line(FILE *out, const struct text *chart, size_t line);
+void show_where(FILE *out, const struct text *chart, const struct text *plate, dushemqa_refusal refusal);
+enum status say_refusal(const struct text *chart, const struct text *plate, dushemqa_refusal refusal);
+
+#endif
