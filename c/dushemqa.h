@@ -17,7 +17,7 @@
  * after spaces, with no leading zero.
  *     H positions moves   the first line: how many there are
  *     O position mark     a position where the console chooses; L where the lane does. They are numbered from 0 in order, and
- *                         the mark is 0 for safe, 1 for unsafe
+ *                         the mark is 0 for safe, 1 for unsafe. A blank mark, five spaces, means 0; no other field may be blank
  *     M from to           a meant move; D a disturbance. They rise: by from, then M before D, then by to
  * Disturbances leave O positions only, and each position has a meant move.
  *
@@ -67,7 +67,7 @@ extern "C" {
 enum dushemqa_number {
     DUSHEMQA_TAKEN = 0,             /* nothing was refused */
     DUSHEMQA_REFUSED_LENGTH = 1,    /* chart empty, over 55,308 bytes, or no multiple of 12 */
-    DUSHEMQA_REFUSED_FORM = 2,      /* letter not allowed at this line, bad field, or no line feed */
+    DUSHEMQA_REFUSED_FORM = 2,      /* letter not allowed at this line, bad field, blank field save a mark, or no line feed */
     DUSHEMQA_REFUSED_LIMITS = 3,    /* count of positions or of moves outside its limits */
     DUSHEMQA_REFUSED_COUNT = 4,     /* not as many lines as the first line says */
     DUSHEMQA_REFUSED_SEQUENCE = 5,  /* position out of sequence, or mark above 1 */

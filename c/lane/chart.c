@@ -8,7 +8,7 @@ const uint8_t *chart_line(const struct text *chart, size_t line)
     return chart->bytes + line * DUSHEMQA_CHART_LINE_BYTES;
 }
 
-/* A field that was taken has blanks and digits only; one of blanks reads as 0. */
+/* A field that was taken has spaces and digits only. One of spaces is a mark, and means 0. */
 static size_t field(const uint8_t *bytes)
 {
     size_t number = 0;

@@ -82,6 +82,10 @@ static void show_condition(FILE *out, unsigned condition)
 static void explain(unsigned number)
 {
     printf("%u: %s\n    where: %s\n", number, refusals[number].wrong, refusals[number].where);
+    if (number == DUSHEMQA_REFUSED_FORM)
+        printf("    a blank field (five spaces) is bad, save as a position's mark, where it means 0\n");
+    if (number == DUSHEMQA_REFUSED_SEQUENCE)
+        printf("    a blank mark means 0\n");
     if (number != DUSHEMQA_REFUSED_FAULT)
         return;
     printf("    the conditions, at each position from 0 up:\n");

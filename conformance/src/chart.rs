@@ -78,6 +78,11 @@ pub fn push_number(text: &mut Vec<u8>, number: usize) {
     text.extend_from_slice(&field);
 }
 
+/// The number that a field holds, if it holds one. It is for putting inputs together, and less exact than reading a chart.
+pub fn held(field: &[u8]) -> Option<usize> {
+    std::str::from_utf8(field).ok()?.trim_start().parse().ok()
+}
+
 /// How many positions there can be in a chart of `n`: the mark, the meant targets (at least one), and either the lane's
 /// or the console's with any disturbances.
 fn kinds(n: usize) -> usize {

@@ -1,6 +1,7 @@
 //! A second implementation of lane charts and plates, written from document 01 alone, and what is needed to set the
 //! library's C interface against it.
 
+pub mod blanks;
 pub mod capi;
 pub mod chart;
 pub mod measure;

@@ -5,6 +5,8 @@ pub mod damage;
 pub mod damaged;
 pub mod drawn;
 pub mod examples;
+pub mod pairs;
+pub mod setting;
 pub mod small;
 
 use crate::capi::NONE;

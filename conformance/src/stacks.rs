@@ -1,7 +1,7 @@
 //! The stack that each of the library's jobs uses.
 
 use crate::capi::{self, Run, NONE};
-use crate::chart::{Chart, POSITIONS};
+use crate::chart::POSITIONS;
 use crate::measure::stack;
 use crate::model::Subject;
 use crate::tally::JOBS;
@@ -9,13 +9,13 @@ use crate::tally::JOBS;
 /// The most that a call wants, as the header says.
 pub const MOST: usize = 96 << 10;
 
-/// The bytes of stack of each job on an accepted chart with its own plate.
-pub fn stacks(chart: &Chart) -> Vec<(&'static str, usize)> {
-    let text = chart.text();
-    let subject = Subject::new(&text);
+/// The bytes of stack of each job on an accepted chart's text with its own plate.
+pub fn stacks(text: &[u8]) -> Vec<(&'static str, usize)> {
+    let subject = Subject::new(text);
+    let chart = subject.chart().expect("the chart is accepted");
     let (_, plate) = subject.write(22 * (chart.len() + 1));
     let choices = &subject.valuation(chart).choices;
-    let (text, plate) = (text.as_slice(), plate.as_slice());
+    let plate = plate.as_slice();
     let mut rows = [[0u16; POSITIONS]; 3];
     let [values, others, steps] = &mut rows;
     let mut written = [0u8; 22 * (POSITIONS + 1)];

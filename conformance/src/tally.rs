@@ -1,4 +1,6 @@
-//! What was tried: inputs, calls, and how often each job gave each refusal.
+//! What was tried: inputs, calls, how often each job gave each refusal, and what was seen of blanks.
+
+use crate::blanks::SIGHTS;
 
 /// The jobs, in the order of the header.
 pub const JOBS: [&str; 8] = ["value", "write", "read", "check", "weigh", "compare", "start", "report"];
@@ -23,6 +25,11 @@ pub struct Tally {
     /// Comparisons that found the rows the same, and that found them different.
     pub agreed: u64,
     pub differed: u64,
+    /// How often each of the sights of blanks was seen.
+    pub blanks: [u64; SIGHTS.len()],
+    /// Pairs of a chart with blank marks and the same with 0 that were taken, and that were refused.
+    pub pairs_taken: u64,
+    pub pairs_refused: u64,
 }
 
 impl Tally {
@@ -31,10 +38,15 @@ impl Tally {
         self.calls += other.calls;
         self.agreed += other.agreed;
         self.differed += other.differed;
+        self.pairs_taken += other.pairs_taken;
+        self.pairs_refused += other.pairs_refused;
         for (sum, part) in self.refusals.iter_mut().flatten().zip(other.refusals.iter().flatten()) {
             *sum += part;
         }
         for (sum, part) in self.conditions.iter_mut().zip(&other.conditions) {
+            *sum += part;
+        }
+        for (sum, part) in self.blanks.iter_mut().zip(&other.blanks) {
             *sum += part;
         }
     }
@@ -58,6 +70,10 @@ impl Tally {
         let conditions: Vec<String> = (1..7).map(|c| format!("{c}: {}", self.conditions[c])).collect();
         println!("conditions of refusal 14: {}", conditions.join(", "));
         println!("comparisons: {} the same, {} different", self.agreed, self.differed);
+        let blanks: Vec<String> =
+            SIGHTS.iter().zip(self.blanks).map(|(name, count)| format!("{name}: {count}")).collect();
+        blanks.chunks(4).for_each(|some| println!("blanks: {}", some.join(", ")));
+        println!("pairs of blank marks and 0: {} taken, {} refused", self.pairs_taken, self.pairs_refused);
     }
 
     /// What was seen too seldom for this to be a test of it, if all counts of inputs were divided by `divisor`.
@@ -79,6 +95,11 @@ impl Tally {
         }
         want(self.agreed, "agreement of worths and values".to_string());
         want(self.differed, "difference of worths and values".to_string());
+        for (name, count) in SIGHTS.iter().zip(self.blanks) {
+            want(count, format!("a blank, {name},"));
+        }
+        want(self.pairs_taken, "a pair of blank marks and 0 that is taken".to_string());
+        want(self.pairs_refused, "a pair of blank marks and 0 that is refused".to_string());
         missing
     }
 }

@@ -1,5 +1,6 @@
 //! One call of the library set against the model: the whole answer, and every lent byte or number after the call.
 
+use crate::blanks::sights;
 use crate::capi::{self, Refusal, Run};
 use crate::model::{plate_text, Plate, Subject};
 use crate::solver;
@@ -27,6 +28,7 @@ impl Pattern for u16 {
 }
 
 /// Memory to lend, with guards on both sides.
+#[derive(Debug, PartialEq)]
 pub struct Lent<T> {
     cells: Vec<T>,
 }
@@ -72,6 +74,15 @@ pub struct Trial {
 }
 
 impl Trial {
+    /// Counts an input, and what its chart shows of blanks.
+    pub fn input(&mut self, subject: &Subject) {
+        let answer = subject.chart().err().unwrap_or_default();
+        self.tally.inputs += 1;
+        for (count, seen) in self.tally.blanks.iter_mut().zip(sights(subject.text, answer)) {
+            *count += u64::from(seen);
+        }
+    }
+
     pub fn value(&mut self, subject: &Subject, lengths: [usize; 3]) {
         let (answer, rows) = subject.value(lengths);
         let mut lent = lengths.map(Lent::new);

@@ -1,9 +1,10 @@
 //! The test: the library, through its C interface, against the model. It ends with status 1 at the first mismatch, and
-//! also if a refusal or a condition was hardly ever seen, or if a call wants more stack than the header says. A number as the argument divides the counts of inputs, for a
-//! quick look.
+//! also if a refusal, a condition or a use of blanks was hardly ever seen, or if a call wants more stack than the header
+//! says. A number as the argument divides the counts of inputs, for a quick look.
 
+use conformance::blanks::leave_out;
 use conformance::chart::{MOVES, POSITIONS};
-use conformance::parts::{controllers, damaged, drawn, examples, small, Share};
+use conformance::parts::{controllers, damaged, drawn, examples, pairs, small, Share};
 use conformance::shapes::{blocks, lane_chain};
 use conformance::stacks::{stacks, MOST};
 use conformance::tally::Tally;
@@ -16,11 +17,12 @@ fn main() -> ExitCode {
     let divisor = std::env::args().nth(1).map_or(1, |word| word.parse().expect("a number to divide the counts by"));
     let mut total = Tally::default();
     println!("{:<58}{:>10}{:>10}", "part", "inputs", "calls");
-    note(&mut total, "0  examples, edges and refusals of document 01", &examples::part());
+    note(&mut total, "0  examples, edges, refusals and blanks of the documents", &examples::part());
     note(&mut total, "1  all charts of one to three positions", &shared(small::part, divisor));
     note(&mut total, "2  all controllers of small charts", &shared(controllers::part, divisor));
     note(&mut total, "3  pseudo-random charts, all jobs, with runs", &shared(drawn::part, divisor));
     note(&mut total, "4  damaged charts, plates, choices, runs and buffers", &shared(damaged::part, divisor));
+    note(&mut total, "5  blank marks beside 0, all jobs", &shared(pairs::part, divisor));
     println!();
     total.print();
     let mut wrong = total.missing(divisor);
@@ -35,10 +37,14 @@ fn main() -> ExitCode {
     ExitCode::FAILURE
 }
 
-/// The jobs that want more stack on a full chart than the header says.
+/// The jobs that want more stack on a full chart than the header says, be its safe marks 0 or blank.
 fn deep_calls() -> impl Iterator<Item = String> {
-    let charts = [lane_chain(POSITIONS, MOVES), blocks(POSITIONS, MOVES, 16)];
-    let deep = charts.into_iter().flat_map(|chart| stacks(&chart)).filter(|(_, bytes)| *bytes > MOST);
+    let charts = [lane_chain(POSITIONS, MOVES), blocks(POSITIONS, MOVES, 16)].map(|chart| chart.text());
+    let blank = charts.clone().map(|mut text| {
+        leave_out(&mut text, |_| true);
+        text
+    });
+    let deep = charts.into_iter().chain(blank).flat_map(|text| stacks(&text)).filter(|(_, bytes)| *bytes > MOST);
     deep.map(|(job, bytes)| format!("{job} wants {bytes} bytes of stack"))
 }
 

@@ -1,5 +1,6 @@
 //! The timings: the library, through its C interface, beside the fast solver in Rust, on the same inputs in one run.
 
+use conformance::blanks::leave_out;
 use conformance::capi;
 use conformance::chart::{Chart, Owner, Position, MOVES, POSITIONS};
 use conformance::measure::{stack, times};
@@ -146,9 +147,18 @@ fn reading() {
     let even = Shape { lane: 30, hazards: 5, meant: 8, disturbances: 8, reach: Reach::Anywhere };
     let small = [("32 positions, even mix", shaped(32, 256, even)), ("32 positions, chain", lane_chain(32, 256))];
     for (name, chart) in kinds().into_iter().chain(small) {
-        let (library, rust) = reading_alone(&chart.text());
-        println!("{name:<40}{library:>10.2}{rust:>10.2}{:>8.2}", library / rust);
+        let mut text = chart.text();
+        reading_row(name, &text);
+        if name.ends_with("even mix") {
+            leave_out(&mut text, |_| true);
+            reading_row(&format!("{name}, blank marks"), &text);
+        }
     }
+}
+
+fn reading_row(name: &str, chart: &[u8]) {
+    let (library, rust) = reading_alone(chart);
+    println!("{name:<40}{library:>10.2}{rust:>10.2}{:>8.2}", library / rust);
 }
 
 fn growth() {
@@ -177,7 +187,7 @@ fn memory() {
     let (_, chart) = kinds().swap_remove(0);
     let input = &Input::new(&chart);
     let kib = |bytes: usize| format!("{:.1}", bytes as f64 / 1024.0);
-    for (title, library) in stacks(&chart) {
+    for (title, library) in stacks(&input.chart) {
         let rust = JOBS.iter().position(|job| *job == title).map(|job| {
             let mut lent = Lent::new();
             kib(stack(|| rust(job, input, &mut lent)))

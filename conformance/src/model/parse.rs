@@ -28,7 +28,7 @@ pub fn parse(text: &[u8]) -> Result<Chart, Refusal> {
 
 /// The first line: the count of positions, after refusals 2, 3 and 4.
 fn counted(text: &[u8]) -> Result<usize, Refusal> {
-    let (_, n, m) = fields(text, 0, b"H")?;
+    let (_, n, m) = fields(text, 0, b"H", number)?;
     if !(1..=POSITIONS).contains(&n) || !(1..=MOVES).contains(&m) {
         return Err(refused_at(3, 0));
     }
@@ -40,7 +40,7 @@ fn counted(text: &[u8]) -> Result<usize, Refusal> {
 
 /// A position line, whose moves come later.
 fn position(text: &[u8], line: usize) -> Result<Position, Refusal> {
-    let (letter, number, mark) = fields(text, line, b"OL")?;
+    let (letter, number, mark) = fields(text, line, b"OL", mark)?;
     if number != line - 1 || mark > 1 {
         return Err(refused_at(5, line));
     }
@@ -56,7 +56,7 @@ fn position(text: &[u8], line: usize) -> Result<Position, Refusal> {
 type Rank = (usize, bool, usize);
 
 fn add_move(chart: &mut Chart, text: &[u8], line: usize, before: Option<Rank>) -> Result<Rank, Refusal> {
-    let (letter, from, to) = fields(text, line, b"MD")?;
+    let (letter, from, to) = fields(text, line, b"MD", number)?;
     let disturbance = letter == b'D';
     if from >= chart.len() || to >= chart.len() {
         return Err(refused_at(6, line));
@@ -74,24 +74,55 @@ fn add_move(chart: &mut Chart, text: &[u8], line: usize, before: Option<Rank>) -
     Ok(rank)
 }
 
+/// How a field is read where it stands: its number, or none where it is refused.
+type Reader = fn(&[u8]) -> Option<usize>;
+
 /// The letter and the two numbers of a line, or refusal 2.
-fn fields(text: &[u8], line: usize, letters: &[u8]) -> Result<(u8, usize, usize), Refusal> {
+fn fields(text: &[u8], line: usize, letters: &[u8], read_second: Reader) -> Result<(u8, usize, usize), Refusal> {
     let bytes = &text[LINE * line..LINE * (line + 1)];
     let read = || {
         let first = number(&bytes[1..6])?;
-        let second = number(&bytes[6..11])?;
+        let second = read_second(&bytes[6..11])?;
         (letters.contains(&bytes[0]) && bytes[11] == b'\n').then_some((bytes[0], first, second))
     };
     read().ok_or(refused_at(2, line))
 }
 
-/// A field's number: digits after spaces, with no leading zero save "0" itself.
-pub fn number(field: &[u8]) -> Option<usize> {
-    let spaces = field.iter().take_while(|&&byte| byte == b' ').count();
-    let digits = &field[spaces..];
-    let leading_zero = digits.len() > 1 && digits[0] == b'0';
-    if digits.is_empty() || leading_zero || !digits.iter().all(u8::is_ascii_digit) {
-        return None;
+/// What five bytes read as.
+enum Field {
+    Number(usize),
+    /// Five spaces.
+    Blank,
+    Bad,
+}
+
+/// Digits after spaces, with no leading zero save "0" itself, are a number.
+fn field(bytes: &[u8]) -> Field {
+    let spaces = bytes.iter().take_while(|&&byte| byte == b' ').count();
+    let digits = &bytes[spaces..];
+    if digits.is_empty() {
+        return Field::Blank;
     }
-    Some(digits.iter().fold(0, |sum, &digit| 10 * sum + usize::from(digit - b'0')))
+    let leading_zero = digits.len() > 1 && digits[0] == b'0';
+    if leading_zero || !digits.iter().all(u8::is_ascii_digit) {
+        return Field::Bad;
+    }
+    Field::Number(digits.iter().fold(0, |sum, &digit| 10 * sum + usize::from(digit - b'0')))
+}
+
+/// The number of a field that must have one: there a blank is refused as a bad field is.
+pub fn number(bytes: &[u8]) -> Option<usize> {
+    match field(bytes) {
+        Field::Number(number) => Some(number),
+        Field::Blank | Field::Bad => None,
+    }
+}
+
+/// A position's mark. Blank means 0.
+fn mark(bytes: &[u8]) -> Option<usize> {
+    match field(bytes) {
+        Field::Number(number) => Some(number),
+        Field::Blank => Some(0),
+        Field::Bad => None,
+    }
 }

@@ -1,8 +1,9 @@
 //! Damage to good inputs: texts of charts and plates, a plate's numbers, choices.
 
 use super::random_choices;
+use crate::blanks::BLANK;
 use crate::capi::NONE;
-use crate::chart::{push_number, Chart, MOVES, POSITIONS};
+use crate::chart::{held, push_number, Chart, MOVES, POSITIONS};
 use crate::model::{summed, Plate};
 use crate::random::Random;
 
@@ -32,6 +33,25 @@ const FIELDS: [&[u8; 5]; 20] = [
     b"ever ",
     b" EVER",
     b"\0\0\0 0",
+];
+
+/// Fields that are nearly blank, and bad everywhere.
+const NEARLY_BLANK: [&[u8; 5]; 15] = [
+    b"    \t",
+    b"\t    ",
+    b"  \t  ",
+    b"\t\t\t\t\t",
+    b"   \t\t",
+    b"   \x0b\x0c",
+    b"    \n",
+    b"    \r",
+    b"    \0",
+    b"\0\0\0\0\0",
+    b"    \xa0",
+    b"   0 ",
+    b"   1 ",
+    b"0    ",
+    b"    _",
 ];
 
 /// Bytes that occur in the texts.
@@ -126,10 +146,6 @@ fn nudge(random: &mut Random, text: &mut [u8; 5]) {
     }
 }
 
-fn held(text: &[u8]) -> Option<usize> {
-    std::str::from_utf8(text).ok()?.trim_start().parse().ok()
-}
-
 /// One damage to a chart's text of a kind that only charts have.
 pub fn hurt_chart(random: &mut Random, text: &mut Vec<u8>) {
     let Some(n) = text.get(1..6).and_then(held).filter(|&n| n > 0 && text.len() >= CHART * (n + 2)) else {
@@ -152,6 +168,56 @@ pub fn hurt_chart(random: &mut Random, text: &mut Vec<u8>) {
         _ => {
             let letter = CHART * random.between(n + 1, text.len() / CHART - 1);
             text[letter] ^= b'M' ^ b'D';
+        }
+    }
+}
+
+/// A blank, or what is nearly one, in some field of a plate's text.
+pub fn hurt_plate_by_blanks(random: &mut Random, text: &mut [u8]) {
+    let lines = text.len() / PLATE;
+    if lines > 0 {
+        let line = random.below(lines);
+        set_field(random, text, PLATE, line, make_blank);
+    }
+}
+
+fn make_blank(random: &mut Random, field: &mut [u8; 5]) {
+    *field = if random.chance(70) { *BLANK } else { **random.pick(&NEARLY_BLANK) };
+}
+
+/// One damage with blanks to a chart's text: one in a column of any kind of line, or one as a mark with another fault
+/// beside it or after it.
+pub fn hurt_chart_by_blanks(random: &mut Random, text: &mut [u8]) {
+    let count = text.len() / CHART;
+    let Some(n) = text.get(1..6).and_then(held).filter(|&n| n > 0 && n + 1 < count) else {
+        return;
+    };
+    let (position, later) = (random.between(1, n), random.between(n + 1, count - 1));
+    if random.chance(60) {
+        let line = *random.pick(&[0, position, later]);
+        return set_field(random, text, CHART, line, make_blank);
+    }
+    let mut lines: Vec<&mut [u8]> = text.chunks_exact_mut(CHART).collect();
+    lines[position][6..11].copy_from_slice(BLANK);
+    match random.below(3) {
+        0 => fault(random, lines[position], 1),
+        1 => fault(random, lines[later], 2),
+        _ => {
+            let line = random.between(position + 1, later);
+            fault(random, lines[line], 2);
+        }
+    }
+}
+
+/// Another letter or line feed on a chart's line, or another thing in one of its first so many fields.
+fn fault(random: &mut Random, line: &mut [u8], fields: usize) {
+    match random.below(4) {
+        0 => line[0] = *random.pick(b"HOLMDPVRhom \n"),
+        1 => line[CHART - 1] = *random.pick(b" 0\r\0"),
+        _ => {
+            let column = 1 + 5 * random.below(fields);
+            let bad = **random.pick(&FIELDS);
+            line[column..column + 5].copy_from_slice(&if random.chance(50) { bad } else { number(random) });
         }
     }
 }

@@ -1,6 +1,7 @@
 //! Part 3: pseudo-random charts up to the limits, with every job on each and a run of reports.
 
 use super::{random_choices, Share};
+use crate::blanks::leave_out_some;
 use crate::capi::Run;
 use crate::chart::{Chart, Owner, MOVES, POSITIONS};
 use crate::model::Subject;
@@ -65,12 +66,13 @@ fn long_chart(random: &mut Random) -> Chart {
 }
 
 fn one(trial: &mut Trial, random: &mut Random, chart: &Chart) {
-    let text = chart.text();
+    let mut text = chart.text();
+    leave_out_some(random, &mut text);
     let subject = Subject::new(&text);
     assert_eq!(subject.chart(), Ok(chart), "a chart's text is read back as the chart");
     let n = chart.len();
     let (_, plate) = subject.write(22 * (n + 1));
-    trial.tally.inputs += 1;
+    trial.input(&subject);
     trial.value(&subject, [n + 3, n, n + 1]);
     trial.write(&subject, plate.len() + random.below(30));
     trial.read(&subject, &plate, [n, n + 2, n + 1]);

@@ -1,6 +1,7 @@
 //! Part 0: the model itself gives what document 01 says of its example, of the charts at the edges, and of the refusals'
-//! examples.
+//! examples, and what document 02 says of blanks (order 1).
 
+use crate::blanks::leave_out;
 use crate::capi::{Refusal, Run, NONE};
 use crate::chart::{MOVES, POSITIONS};
 use crate::model::Subject;
@@ -38,7 +39,7 @@ const PLATE: &[&str] = &[
 type Edge = (&'static str, &'static [&'static str], &'static [[u16; 3]]);
 
 #[rustfmt::skip]
-const EDGES: [Edge; 11] = [
+const EDGES: [Edge; 14] = [
     ("a", CHART, &[[2, 1, 0], [2, NONE, 1], [1, 0, 0], [0, NONE, 0], [NONE, 4, NONE]]),
     ("b", &["H    1    1", "L    0    1", "M    0    0"], &[[0, NONE, 0]]),
     ("c", &["H    1    1", "O    0    0", "M    0    0"], &[[NONE, 0, NONE]]),
@@ -56,7 +57,15 @@ const EDGES: [Edge; 11] = [
         &[[0, 1, 0], [NONE, NONE, NONE]]),
     ("j", &["H    2    2", "L    0    0", "L    1    0", "M    0    1", "M    1    0"],
         &[[NONE, NONE, NONE], [NONE, NONE, NONE]]),
+    ("c, all marks blank", &["H    1    1", "O    0     ", "M    0    0"], &[[NONE, 0, NONE]]),
+    ("e, its safe mark blank", &["H    2    3", "O    0     ", "L    1    1", "M    0    0", "D    0    1", "M    1    1"],
+        &[[1, 0, 0], [0, NONE, 0]]),
+    ("j, all marks blank", &["H    2    2", "L    0     ", "L    1     ", "M    0    1", "M    1    0"],
+        &[[NONE, NONE, NONE], [NONE, NONE, NONE]]),
 ];
+
+/// Positions of the printed chart whose marks are left out: the first, one in the middle, the last, all that are safe.
+const LEFT_OUT: [&[usize]; 4] = [&[0], &[2], &[4], &[0, 1, 2, 4]];
 
 /// The table's examples of refusals 1 to 9: the lines of a chart, the number and the line. Edges k and l are 9 and 8.
 #[rustfmt::skip]
@@ -72,22 +81,57 @@ const REFUSED: [(&[&str], u32, usize); 9] = [
     (&["H    1    1", "O    0    0", "D    0    0"], 9, 1),
 ];
 
+/// Blanks in each column that is no mark; marks that are nearly blank; and every refusal that a chart with a blank mark may
+/// still get, on its line or later.
+#[rustfmt::skip]
+const BLANKS: [(&[&str], u32, usize); 24] = [
+    (&["H         1", "O    0    0", "M    0    0"], 2, 0),
+    (&["H    1     ", "O    0    0", "M    0    0"], 2, 0),
+    (&["H          ", "O    0    0", "M    0    0"], 2, 0),
+    (&["H    1    1", "O         0", "M    0    0"], 2, 1),
+    (&["H    1    1", "O          ", "M    0    0"], 2, 1),
+    (&["H    1    1", "L         1", "M    0    0"], 2, 1),
+    (&["H    1    1", "O    0    0", "M         0"], 2, 2),
+    (&["H    1    1", "O    0    0", "M    0     "], 2, 2),
+    (&["H    1    1", "O    0    0", "M          "], 2, 2),
+    (&["H    1    2", "O    0    0", "M    0    0", "D         0"], 2, 3),
+    (&["H    1    2", "O    0    0", "M    0    0", "D    0     "], 2, 3),
+    (&["H    1    1", "O    0    \t", "M    0    0"], 2, 1),
+    (&["H    1    1", "O    0\t\t\t\t\t", "M    0    0"], 2, 1),
+    (&["H    1    1", "O    0   0 ", "M    0    0"], 2, 1),
+    (&["H    1    1", "O    00    ", "M    0    0"], 2, 1),
+    (&["H    1    2", "O    0     ", "M    0    0"], 4, 0),
+    (&["H    1    1", "M    0     ", "M    0    0"], 2, 1),
+    (&["H    1    1", "O   00     ", "M    0    0"], 2, 1),
+    (&["H    1    1", "O    1     ", "M    0    0"], 5, 1),
+    (&["H    2    2", "O    0     ", "O    1    2", "M    0    0", "M    1    1"], 5, 2),
+    (&["H    1    1", "O    0     ", "M    0    1"], 6, 2),
+    (&["H    1    1", "L    0     ", "D    0    0"], 7, 2),
+    (&["H    1    2", "O    0     ", "M    0    0", "M    0    0"], 8, 3),
+    (&["H    1    1", "O    0     ", "D    0    0"], 9, 1),
+];
+
 pub fn part() -> Tally {
     let mut trial = Trial::default();
     for (name, lines, expected) in EDGES {
         edge(&mut trial, name, &text(lines), expected);
     }
-    for (lines, number, line) in REFUSED {
+    for (lines, number, line) in REFUSED.into_iter().chain(BLANKS) {
         let chart = text(lines);
         let subject = Subject::new(&chart);
         let refusal = Refusal { number, line, ..Refusal::default() };
         assert_eq!(subject.value([9; 3]).0.refusal, refusal, "{lines:?}");
-        trial.tally.inputs += 1;
+        trial.input(&subject);
         trial.value(&subject, [9; 3]);
         trial.write(&subject, 99);
         trial.solver(&subject, &[], &[0; 9]);
     }
-    printed(&mut trial);
+    printed(&mut trial, &text(CHART));
+    for positions in LEFT_OUT {
+        let mut chart = text(CHART);
+        leave_out(&mut chart, |v| positions.contains(&v));
+        printed(&mut trial, &chart);
+    }
     later_refusals(&mut trial);
     longest(&mut trial);
     trial.tally
@@ -105,7 +149,7 @@ fn edge(trial: &mut Trial, name: &str, chart: &[u8], expected: &[[u16; 3]]) {
         assert_eq!(&[rows[0][v], rows[1][v], rows[2][v]], entries, "edge {name}, position {v}");
     }
     let (_, plate) = subject.write(22 * (n + 1));
-    trial.tally.inputs += 1;
+    trial.input(&subject);
     trial.value(&subject, [n; 3]);
     trial.write(&subject, plate.len());
     trial.read(&subject, &plate, [n; 3]);
@@ -115,16 +159,19 @@ fn edge(trial: &mut Trial, name: &str, chart: &[u8], expected: &[[u16; 3]]) {
     trial.solver(&subject, &plate, &rows[1]);
 }
 
-/// The plate that the document prints beside its chart.
-fn printed(trial: &mut Trial) {
-    let (chart, plate) = (text(CHART), text(PLATE));
-    let subject = Subject::new(&chart);
+/// The plate that the document prints beside its chart, which this is, perhaps with blank marks.
+fn printed(trial: &mut Trial, chart: &[u8]) {
+    let plate = text(PLATE);
+    let subject = Subject::new(chart);
     let (written, bytes) = subject.write(132);
     assert_eq!((written.length, &bytes), (132, &plate), "the printed plate");
     assert_eq!(subject.check(&plate), Refusal::default(), "the printed plate is accepted");
     assert_eq!(subject.compare(&plate, &[1, NONE, 0, NONE, 4]).agree, 1, "the plate's own choices");
-    trial.tally.inputs += 1;
+    trial.input(&subject);
     trial.write(&subject, 132);
+    trial.check(&subject, &plate);
+    trial.compare(&subject, &plate, &[1, NONE, 0, NONE, 4]);
+    trial.solver(&subject, &plate, &[1, NONE, 0, NONE, 4]);
 }
 
 /// The table's examples of refusals 10 to 16, all on the printed chart.

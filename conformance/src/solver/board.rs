@@ -61,7 +61,7 @@ impl Board {
     fn read_positions(&mut self, text: &[u8]) -> Result<(), Refusal> {
         for (v, line) in text.chunks_exact(LINE).enumerate() {
             let at = |number| Refusal { number, line: 1 + v, ..Refusal::default() };
-            let (letter, number, mark) = fields(line).ok_or(at(2))?;
+            let (letter, number, mark) = fields(line, field::mark).ok_or(at(2))?;
             if letter != b'O' && letter != b'L' {
                 return Err(at(2));
             }
@@ -79,7 +79,7 @@ impl Board {
         let mut before = 0;
         for (i, line) in text.chunks_exact(LINE).enumerate() {
             let at = |number| Refusal { number, line: 1 + self.n + i, ..Refusal::default() };
-            let (letter, from, to) = fields(line).ok_or(at(2))?;
+            let (letter, from, to) = fields(line, field::number).ok_or(at(2))?;
             if letter != b'M' && letter != b'D' {
                 return Err(at(2));
             }
@@ -123,7 +123,7 @@ impl Board {
 
 /// The count of positions.
 fn header(text: &[u8]) -> Result<usize, Refusal> {
-    let (letter, n, m) = fields(&text[..LINE]).ok_or(refused(2))?;
+    let (letter, n, m) = fields(&text[..LINE], field::number).ok_or(refused(2))?;
     if letter != b'H' {
         return Err(refused(2));
     }
@@ -139,9 +139,9 @@ fn header(text: &[u8]) -> Result<usize, Refusal> {
 
 /// The letter and the two numbers of a line that ends as it should.
 #[inline]
-fn fields(line: &[u8]) -> Option<(u8, u32, u32)> {
+fn fields(line: &[u8], read_second: impl Fn(&[u8]) -> Option<u32>) -> Option<(u8, u32, u32)> {
     let line: &[u8; LINE] = line.try_into().ok()?;
     let first = field::number(&line[1..6])?;
-    let second = field::number(&line[6..11])?;
+    let second = read_second(&line[6..11])?;
     (line[LINE - 1] == b'\n').then_some((line[0], first, second))
 }

@@ -7,12 +7,13 @@ use lib.ListN.{length}
 use lib.Dec.{ltb}
 use Rattle.field.specs.Text.{fieldAt}
 use Rattle.field.specs.declared.Field.{Field}
-use Rattle.field.specs.declared.Field.the-variants.{Number, Bad}
+use Rattle.field.specs.declared.Field.the-variants.{Number, Blank, Bad}
 use Rattle.cases.specs.declared.Case.{Case}
 
 -- a length, 0 where the field has no number
 abbrev pub lengthIn : Field → ℕ
 lengthIn (Number x) = x
+lengthIn Blank = 0
 lengthIn Bad = 0
 
 -- so many bytes further on, or the input's end where that comes first

@@ -69,6 +69,7 @@ fn length(f: Field) -> usize
 {
     match f {
         Field::Number(x) => x as usize,
+        Field::Blank => 0,
         Field::Bad => 0,
     }
 }

@@ -7,7 +7,7 @@ use mathlib.Core.List.{List}
 use lib.Dec.{eqb}
 use Rattle.field.specs.Laws.{field-small}
 use Rattle.field.specs.declared.Field.{Field}
-use Rattle.field.specs.declared.Field.the-variants.{Number, Bad}
+use Rattle.field.specs.declared.Field.the-variants.{Number, Blank, Bad}
 use Rattle.chart.specs.Text.{letterAt, firstAt, secondAt, endAt, fieldNumber, fromAt}
 use Rattle.chart.specs.declared.Row.{Row}
 
@@ -25,4 +25,5 @@ from-small text i = go (firstAt text i) refl
   where
     go : (f : Field) → firstAt text i ≡ f → fieldNumber f ≤ 99999
     go (Number x) e = field-small text (i * 12 + 1) x e
+    go Blank e = omega arith
     go Bad e = omega arith

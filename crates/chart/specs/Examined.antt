@@ -8,7 +8,7 @@ use lib.ListN.{length, getD}
 use lib.Dec.{ltb, leb, eqb}
 use Rattle.search.specs.First.{firstFrom}
 use Rattle.field.specs.declared.Field.{Field}
-use Rattle.chart.specs.Text.{letterAt, firstAt, secondAt, endAt, markAt, fieldNumber, isNumber, positionsOf, movesOf, fromAt, toAt}
+use Rattle.chart.specs.Text.{letterAt, firstAt, secondAt, endAt, markOf, markAt, fieldNumber, isNumber, positionsOf, movesOf, fromAt, toAt}
 use Rattle.chart.specs.Meaning.{costOf}
 use Rattle.rows.specs.declared.Chart.{Chart}
 use Rattle.chart.specs.declared.Row.{Row}
@@ -66,7 +66,8 @@ positionFinding text i = judgedPosition (positionFormed text i) i (fromAt text i
 
 -- the same from the line's columns
 unfoldable pub positionRowFinding : Row → ℕ → Finding
-positionRowFinding row i = judgedPosition (formed (row .letter) (row .first) (row .second) (row .end) 79 76) i (fieldNumber (row .first)) (fieldNumber (row .second))
+positionRowFinding row i =
+    judgedPosition (formed (row .letter) (row .first) (markOf (row .second)) (row .end) 79 76) i (fieldNumber (row .first)) (fieldNumber (markOf (row .second)))
 
 -- "by from, then M before D, then by to": the second move is above the first
 unfoldable pub above : ℕ → ℕ → ℕ → ℕ → ℕ → ℕ → Bool

@@ -1,6 +1,7 @@
--- Texts and arenas mean each other: an accepted text is the text of its arena, and every arena that is well-formed, within the
--- limits, with marks 0 or 1 and strictly rising moves has a text that is accepted and means it. An accepted line has the bytes that
--- set out what it says (specs/Lines.antt); a line of an arena's text reads as what was set out, so that no refusal applies.
+-- Texts and arenas mean each other: an accepted text with its blank marks filled is the text of its arena, and every arena that is
+-- well-formed, within the limits, with marks 0 or 1 and strictly rising moves has a text that is accepted and means it. An accepted line
+-- without a blank has the bytes that set out what it says (specs/Lines.antt); filling changes neither the answer nor the arena
+-- (specs/BlankLaws.antt); a line of an arena's text reads as what was set out, so that no refusal applies.
 use Prim.Native.Nat.{ℕ, zero, suc, _+_, _-_, _*_, _≤_, _<_}
 use native.Mathlib.Omega.{arith}
 use native.Mathlib.Nat.{add-comm}
@@ -12,18 +13,19 @@ use lib.ListN.{length, drop, length-append, drop-of-length-le}
 use lib.Dec.{T, eqb, leb, eqb·suc-zero}
 use borrow.Author.Tests.{eqb-true, eqb-false, leb-true, leb-false}
 use Rattle.game.specs.Arena.{Arena, Position, Move, Owner, controller, environment, size, ownerAt, positionAt, moveAt, nowhere, noMove, meantMove, Disturbance, mayBeDisturbed}
-use Rattle.field.specs.declared.Field.{Field}
 use Rattle.field.specs.declared.Field.the-variants.{Number}
-use Rattle.chart.specs.Text.{letterAt, firstAt, secondAt, endAt, markAt, fieldNumber, positionsOf, movesOf, fromAt, toAt}
+use Rattle.chart.specs.Text.{letterAt, firstAt, secondAt, markOf, markAt, fieldNumber, positionsOf, movesOf, fromAt, toAt}
 use Rattle.chart.specs.Meaning.{ownerOf, ownerLetter, costOf, costLetter, positionOn, moveOn, arenaOf, chartLine, positionText, moveText, chartText, Rises, Chartable}
 use Rattle.chart.specs.Examined.{examined}
-use Rattle.chart.specs.Good.{Formed, GoodChart, accepted-good}
+use Rattle.chart.specs.Good.{GoodChart, accepted-good}
 use Rattle.game.specs.Members.{member-at, at-member}
 use Rattle.line.specs.Joined.{joined, onLines}
 use Rattle.line.specs.LineLaws.{line-length}
 use Rattle.line.specs.JoinedLaws.{joined-length, joined-part, joined-stands, on-lines-list}
 use Rattle.chart.specs.Arenas.{arena-size, arena-moves, arena-position, arena-move}
-use Rattle.chart.specs.Lines.{Reads, reads-bytes, bytes-read}
+use Rattle.chart.specs.Lines.{Reads, number-again, reads-formed, reads-bytes, bytes-read}
+use Rattle.chart.specs.Blanks.{WithoutBlanks, filling}
+use Rattle.chart.specs.BlankLaws.{plain-mark, filling-without-blanks, filling-differs, examined-same, arena-same}
 use Rattle.chart.specs.Refusals.{PositionLine, MoveLine, Allowed, BadLength, BadForm, OutsideLimits, WrongCount, OutOfSequence, BadEndpoint, BadDisturbance, OutOfOrder, WithoutMeant, Applies}
 use Rattle.chart.specs.LineExact.{position-second, other-second, form-good}
 use Rattle.chart.specs.Exact.{accepted-exactly}
@@ -41,8 +43,8 @@ letter-cost : (letter : ℕ) → (letter ≡ 77) ⊎ (letter ≡ 68) → costLet
 unfolding costOf costLetter
 letter-cost letter = ⊎-elim (λ e. rw e) (λ e. rw e)
 
--- the bytes of an accepted header, position line and move line
-module _ (text : List ℕ) (g : GoodChart text) where
+-- the bytes of an accepted header, position line and move line, where no mark is blank
+module _ (text : List ℕ) (g : GoodChart text) (w : WithoutBlanks text) where
   lines : length text ≡ (1 + positionsOf text + movesOf text) * 12
   lines = g .limits .lines
 
@@ -53,17 +55,18 @@ module _ (text : List ℕ) (g : GoodChart text) where
       (record { letter-is = ⊎-elim (λ e. e) (λ e. e) (g .form .allowed); first-is = g .form .first-number; second-is = g .form .second-number; end-is = g .form .ends })
 
   position-bytes : (v : ℕ) → v < positionsOf text → drop (12 + v * 12) text ≡ positionText v (positionAt (arenaOf text) v) ++ drop (12 + suc v * 12) text
-  unfolding positionText positionOn fromAt markAt
+  unfolding positionText positionOn fromAt
   position-bytes v h =
       let line = g .position (v + 1) (omega arith) (omega arith) in
+      let plain : markAt text (v + 1) ≡ secondAt text (v + 1) = plain-mark text (v + 1) (w (v + 1) (omega arith, omega arith)) in
       let number : fieldNumber (firstAt text (v + 1)) ≡ v = line .in-order ∙ omega arith in
       let here : 12 + v * 12 ≡ (v + 1) * 12 = omega arith in
       let next : (v + 1 + 1) * 12 ≡ 12 + suc v * 12 = omega arith in
       rw (arena-position text v h, letter-owner (letterAt text (v + 1)) (line .form .allowed))
       (ap (λ (k : ℕ). drop k text) here
-      ∙ reads-bytes text (v + 1) (letterAt text (v + 1)) v (fieldNumber (secondAt text (v + 1))) (omega (arith, lines))
-      (record { letter-is = refl; first-is = line .form .first-number ∙ ap Number number; second-is = line .form .second-number; end-is = line .form .ends })
-      ∙ ap (λ (k : ℕ). chartLine (letterAt text (v + 1)) v (fieldNumber (secondAt text (v + 1))) ++ drop k text) next)
+      ∙ reads-bytes text (v + 1) (letterAt text (v + 1)) v (fieldNumber (markAt text (v + 1))) (omega (arith, lines))
+      (record { letter-is = refl; first-is = line .form .first-number ∙ ap Number number; second-is = sym plain ∙ line .form .second-number; end-is = line .form .ends })
+      ∙ ap (λ (k : ℕ). chartLine (letterAt text (v + 1)) v (fieldNumber (markAt text (v + 1))) ++ drop k text) next)
 
   move-bytes : (i : ℕ) → i < movesOf text → drop (12 + positionsOf text * 12 + i * 12) text ≡ moveText (moveAt (arenaOf text) i) ++ drop (12 + positionsOf text * 12 + suc i * 12) text
   unfolding moveText moveOn fromAt toAt
@@ -93,9 +96,12 @@ module _ (text : List ℕ) (g : GoodChart text) where
       (joined-stands _ 12 12 text n position-bytes
       ∙ ap (λ (l : List ℕ). positions ++ l) (joined-stands _ 12 (12 + n * 12) text m move-bytes ∙ ap (λ (l : List ℕ). moves ++ l) (drop-of-length-le text past) ∙ append-nil moves))))
 
--- an accepted text is the text of its arena
-pub text-faithful : (text : List ℕ) (chart : Chart) → examined text ≡ Accepted chart → chartText (arenaOf text) ≡ text
-text-faithful text chart e = good-faithful text (accepted-good text chart e .0)
+-- an accepted text, its blank marks filled, is the text of its arena
+pub text-faithful : (text : List ℕ) (chart : Chart) → examined text ≡ Accepted chart → chartText (arenaOf text) ≡ filling text
+text-faithful text chart e =
+    let d = filling-differs text in
+    let good = accepted-good (filling text) chart (sym (examined-same text (filling text) d) ∙ e) .0 in
+    ap chartText (arena-same text (filling text) d) ∙ good-faithful (filling text) good (filling-without-blanks text)
 
 -- owners and costs stand for letters
 owner-letter : (o : Owner) → ownerOf (ownerLetter o) ≡ o
@@ -112,9 +118,9 @@ cost-letter (suc (suc cost)) h = absurd (omega arith)
 -- how the text of an arena reads, line by line
 pub record SetOut (a : Arena) (text : List ℕ) : Type 0 where
   pub lines : length text ≡ (1 + size a + length (a .moves)) * 12
-  pub header : Reads text 0 72 (size a) (length (a .moves))
-  pub position : (v : ℕ) → v < size a → Reads text (v + 1) (ownerLetter (ownerAt a v)) v (positionAt a v .mark)
-  pub move : (i : ℕ) → i < length (a .moves) → Reads text (size a + 1 + i) (costLetter (moveAt a i .cost)) (moveAt a i .from) (moveAt a i .to)
+  pub header : Reads text 0 72 (size a) (Number (length (a .moves)))
+  pub position : (v : ℕ) → v < size a → Reads text (v + 1) (ownerLetter (ownerAt a v)) v (Number (positionAt a v .mark))
+  pub move : (i : ℕ) → i < length (a .moves) → Reads text (size a + 1 + i) (costLetter (moveAt a i .cost)) (moveAt a i .from) (Number (moveAt a i .to))
 
 position-twelve : (v : ℕ) (p : Position) → length (positionText v p) ≡ 12
 unfolding positionText
@@ -150,7 +156,7 @@ module _ (a : Arena) (c : Chartable a) where
   unfolding moveLines
   moves-length = joined-length _ 12 (λ i. move-twelve (moveAt a i)) (length (a .moves))
 
-  position-reads : (v : ℕ) → v < size a → Reads (chartText a) (v + 1) (ownerLetter (ownerAt a v)) v (positionAt a v .mark)
+  position-reads : (v : ℕ) → v < size a → Reads (chartText a) (v + 1) (ownerLetter (ownerAt a v)) v (Number (positionAt a v .mark))
   unfolding positionLines positionText
   position-reads v h =
       let part = joined-part _ 12 (λ u. position-twelve u (positionAt a u)) (size a) v h in
@@ -159,7 +165,7 @@ module _ (a : Arena) (c : Chartable a) where
       (length-append head (positionLines v) ∙ omega (arith, head-length, part .2))
       (text-parts ∙ ap (λ (l : List ℕ). head ++ (l ++ moves)) (part .1) ∙ simp append-assoc)
 
-  move-reads : (i : ℕ) → i < length (a .moves) → Reads (chartText a) (size a + 1 + i) (costLetter (moveAt a i .cost)) (moveAt a i .from) (moveAt a i .to)
+  move-reads : (i : ℕ) → i < length (a .moves) → Reads (chartText a) (size a + 1 + i) (costLetter (moveAt a i .cost)) (moveAt a i .from) (Number (moveAt a i .to))
   unfolding moveLines moveText
   move-reads i h =
       let part = joined-part _ 12 (λ j. move-twelve (moveAt a j)) (length (a .moves)) i h in
@@ -193,19 +199,6 @@ unfolding costLetter
 cost-letters zero = inl refl
 cost-letters (suc cost) = inr (simp (eqb·suc-zero cost))
 
-number-again : (f : Field) (x : ℕ) → f ≡ Number x → (f ≡ Number (fieldNumber f)) × (fieldNumber f ≡ x)
-unfolding fieldNumber
-number-again f x e = (e ∙ ap (λ (g : Field). Number (fieldNumber g)) (sym e), ap fieldNumber e)
-
-reads-formed : (text : List ℕ) (i letter first second a b : ℕ) → Reads text i letter first second → (letter ≡ a) ⊎ (letter ≡ b) →
-    Formed (letterAt text i) (firstAt text i) (secondAt text i) (endAt text i) a b
-reads-formed text i letter first second a b r w = record {
-  allowed = ⊎-elim (λ e. inl (r .letter-is ∙ e)) (λ e. inr (r .letter-is ∙ e)) w;
-  first-number = number-again (firstAt text i) first (r .first-is) .0;
-  second-number = number-again (secondAt text i) second (r .second-is) .0;
-  ends = r .end-is;
-}
-
 disturbance-cost : (cost : ℕ) → cost < 2 → costLetter cost ≡ 68 → 1 ≡ cost
 unfolding costLetter
 disturbance-cost zero h e = absurd (omega arith)
@@ -227,19 +220,24 @@ module _ (a : Arena) (c : Chartable a) (text : List ℕ) (s : SetOut a text) whe
   moved = number-again (secondAt text 0) (length (a .moves)) (s .header .second-is) .1
 
   -- the line of a position, and of a move
-  position-line : (i : ℕ) → PositionLine text i → (v : ℕ) × (v + 1 ≡ i) × (v < size a) × Reads text i (ownerLetter (ownerAt a v)) v (positionAt a v .mark)
+  position-line : (i : ℕ) → PositionLine text i → (v : ℕ) × (v + 1 ≡ i) × (v < size a) × Reads text i (ownerLetter (ownerAt a v)) v (Number (positionAt a v .mark))
   position-line i p =
       let e : i - 1 + 1 ≡ i = omega (arith, p .0) in
       let h : i - 1 < size a = omega (arith, p .0, p .1, counted) in
-      (i - 1, e, h, subst (λ (k : ℕ). Reads text k (ownerLetter (ownerAt a (i - 1))) (i - 1) (positionAt a (i - 1) .mark)) e (s .position (i - 1) h))
+      (i - 1, e, h, subst (λ (k : ℕ). Reads text k (ownerLetter (ownerAt a (i - 1))) (i - 1) (Number (positionAt a (i - 1) .mark))) e (s .position (i - 1) h))
 
   move-line : (i : ℕ) → MoveLine text i →
-      (k : ℕ) × (size a + 1 + k ≡ i) × (k < length (a .moves)) × Reads text i (costLetter (moveAt a k .cost)) (moveAt a k .from) (moveAt a k .to)
+      (k : ℕ) × (size a + 1 + k ≡ i) × (k < length (a .moves)) × Reads text i (costLetter (moveAt a k .cost)) (moveAt a k .from) (Number (moveAt a k .to))
   move-line i p =
       let k = i - (size a + 1) in
       let e : size a + 1 + k ≡ i = omega (arith, p .0, counted) in
       let h : k < length (a .moves) = omega (arith, p .0, p .1, counted, moved) in
-      (k, e, h, subst (λ (j : ℕ). Reads text j (costLetter (moveAt a k .cost)) (moveAt a k .from) (moveAt a k .to)) e (s .move k h))
+      (k, e, h, subst (λ (j : ℕ). Reads text j (costLetter (moveAt a k .cost)) (moveAt a k .from) (Number (moveAt a k .to))) e (s .move k h))
+
+  -- its mark, as a field and as a number
+  mark-line : (i v : ℕ) → Reads text i (ownerLetter (ownerAt a v)) v (Number (positionAt a v .mark)) → markAt text i ≡ Number (positionAt a v .mark)
+  unfolding markAt markOf
+  mark-line i v r = ap markOf (r .second-is)
 
   -- so no refusal applies
   length-fine : BadLength text → ⊥
@@ -249,24 +247,24 @@ module _ (a : Arena) (c : Chartable a) (text : List ℕ) (s : SetOut a text) whe
       (⊎-elim (λ l. omega (arith, s .lines, c .few-positions, c .few-moves)) (λ no. no (omega (arith, s .lines))))
 
   form-fine : (i : ℕ) → BadForm text i → ⊥
-  unfolding BadForm Allowed markAt
+  unfolding BadForm Allowed
   form-fine i bad = go (eqb i 0) (leb i (positionsOf text)) refl refl
     where
       go : (x y : Bool) → eqb i 0 ≡ x → leb i (positionsOf text) ≡ y → ⊥
       go true y u v =
           let e : 0 ≡ i = sym (eqb-true i 0 u) in
-          let r = subst (λ (k : ℕ). Reads text k 72 (size a) (length (a .moves))) e (s .header) in
-          form-good text i 72 72 (secondAt text i) (other-second text i (λ q. omega (arith, q .0))) (inl (sym e, r .letter-is)) (reads-formed text i 72 (size a) (length (a .moves)) 72 72 r (inl refl)) bad
+          let r = subst (λ (k : ℕ). Reads text k 72 (size a) (Number (length (a .moves)))) e (s .header) in
+          form-good text i 72 72 (secondAt text i) (other-second text i (λ q. omega (arith, q .0))) (inl (sym e, r .letter-is)) (reads-formed text i 72 (size a) _ (secondAt text i) _ 72 72 r (r .second-is) (inl refl)) bad
       go false true u v =
           let other : i ≡ 0 → ⊥ = eqb-false i 0 u in
           let p : PositionLine text i = (omega arith, leb-true i (positionsOf text) v) in
           let w = position-line i p in
-          let f = reads-formed text i _ _ _ 79 76 (w .3) (owner-letters (ownerAt a (w .0))) in
+          let f = reads-formed text i _ _ _ (markAt text i) _ 79 76 (w .3) (mark-line i (w .0) (w .3)) (owner-letters (ownerAt a (w .0))) in
           form-good text i 79 76 (markAt text i) (position-second text i p) (inr (inl (p, f .allowed))) f bad
       go false false u v =
           let p : MoveLine text i = (leb-false i (positionsOf text) v, bad .0) in
           let w = move-line i p in
-          let f = reads-formed text i _ _ _ 77 68 (w .3) (cost-letters (moveAt a (w .0) .cost)) in
+          let f = reads-formed text i _ _ _ (secondAt text i) _ 77 68 (w .3) (w .3 .second-is) (cost-letters (moveAt a (w .0) .cost)) in
           form-good text i 77 68 (secondAt text i) (other-second text i (λ q. omega (arith, p .0, q .1))) (inr (inr (p, f .allowed))) f bad
 
   limits-fine : OutsideLimits text → ⊥
@@ -280,11 +278,11 @@ module _ (a : Arena) (c : Chartable a) (text : List ℕ) (s : SetOut a text) whe
   count-fine wrong = wrong (omega (arith, s .lines, counted, moved))
 
   sequence-fine : (i : ℕ) → OutOfSequence text i → ⊥
-  unfolding OutOfSequence fromAt markAt
+  unfolding OutOfSequence fromAt
   sequence-fine i bad =
       let w = position-line i (bad .0) in
       let number = number-again (firstAt text i) (w .0) (w .3 .first-is) .1 in
-      let mark = number-again (secondAt text i) (positionAt a (w .0) .mark) (w .3 .second-is) .1 in
+      let mark = number-again (markAt text i) (positionAt a (w .0) .mark) (mark-line i (w .0) (w .3)) .1 in
       ⊎-elim (λ no. no (omega (arith, number, w .1))) (λ high. omega (arith, mark, c .mark (w .0) (w .2))) (bad .1)
 
   -- the move on a line is the arena's
@@ -300,11 +298,11 @@ module _ (a : Arena) (c : Chartable a) (text : List ℕ) (s : SetOut a text) whe
       λ j. record { cost = cost j; from = from j; to = to j }
 
   position-on : (v : ℕ) → v < size a → positionOn text (v + 1) ≡ positionAt a v
-  unfolding positionOn markAt
+  unfolding positionOn
   position-on v h =
       let r = s .position v h in
       let owner : ownerOf (letterAt text (v + 1)) ≡ ownerAt a v = ap ownerOf (r .letter-is) ∙ owner-letter (ownerAt a v) in
-      let mark = number-again (secondAt text (v + 1)) (positionAt a v .mark) (r .second-is) .1 in
+      let mark = number-again (markAt text (v + 1)) (positionAt a v .mark) (mark-line (v + 1) v r) .1 in
       λ j. record { owner = owner j; mark = mark j }
 
   from-on : (k : ℕ) → k < length (a .moves) → fromAt text (size a + 1 + k) ≡ moveAt a k .from

@@ -11,7 +11,7 @@ use lib.Dec.{ltb, leb, eqb}
 use borrow.Author.Tests.{ltb-false, leb-false, eqb-true, eqb-false, le-leb, lt-leb}
 use Rattle.search.specs.First.{first-ended}
 use Rattle.field.specs.declared.Field.{Field}
-use Rattle.field.specs.declared.Field.the-variants.{Number, Bad}
+use Rattle.field.specs.declared.Field.the-variants.{Number, Blank, Bad}
 use Rattle.chart.specs.Text.{letterAt, firstAt, secondAt, endAt, markAt, fieldNumber, isNumber, positionsOf, movesOf, fromAt, toAt}
 use Rattle.chart.specs.Examined.{numbered, formed, headerFormed, positionFormed, moveFormed, headerOf, judgedPosition, positionFinding, rises, ordered, judgedMove, moveFinding, lineFinding, orElse, isClean, firstFault, meantIn, missingAt, answer, afterHeader, linesAfter, examined}
 use Rattle.chart.specs.Header.{WithinLimits, header-accepts}
@@ -55,6 +55,7 @@ untrue e = let z : _≡_ {A = ℕ} 0 1 = cc in absurd (omega arith)
 is-number : (f : Field) → isNumber f ≡ true → f ≡ Number (fieldNumber f)
 unfolding isNumber fieldNumber
 is-number (Number x) e = refl
+is-number Blank e = untrue e
 is-number Bad e = untrue e
 
 numbered-true : (f g : Field) (e : ℕ) → numbered f g e ≡ true → (isNumber f ≡ true) × (isNumber g ≡ true) × (e ≡ 10)

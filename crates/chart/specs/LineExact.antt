@@ -11,11 +11,11 @@ use lib.Dec.{ltb, leb, eqb}
 use borrow.Author.Tests.{ltb-true, ltb-false, leb-true, leb-false, eqb-true, eqb-false, lt-ltb, le-ltb}
 use Rattle.game.specs.Arena.{Move}
 use Rattle.field.specs.declared.Field.{Field}
-use Rattle.field.specs.declared.Field.the-variants.{Number, Bad}
+use Rattle.field.specs.declared.Field.the-variants.{Number, Blank, Bad}
 use Rattle.chart.specs.Text.{letterAt, firstAt, secondAt, endAt, markAt, fieldNumber, isNumber, positionsOf, movesOf, fromAt, toAt}
 use Rattle.chart.specs.Meaning.{moveOn, Rises}
 use Rattle.refusal.specs.Numbers.{misdrawnLine}
-use Rattle.chart.specs.Refusals.{stage, rank, PositionLine, MoveLine, BadSecond, BadForm, Allowed, OutsideLimits, WrongCount, OutOfSequence, BadEndpoint, BadDisturbance, OutOfOrder, Applies}
+use Rattle.chart.specs.Refusals.{stage, rank, PositionLine, MoveLine, BadField, BadSecond, BadForm, Allowed, OutsideLimits, WrongCount, OutOfSequence, BadEndpoint, BadDisturbance, OutOfOrder, Applies}
 use Rattle.chart.specs.Examined.{numbered, formed, headerFormed, positionFormed, moveFormed, limitsOf, headerOf, judgedPosition, positionFinding, above, rises, ordered, judgedMove, moveFinding, lineFinding}
 use Rattle.chart.specs.Good.{Formed, position-form, move-form, header-form, line-position, line-move}
 use Rattle.chart.specs.Accepted.{line-rises}
@@ -48,17 +48,18 @@ fault-exact text i r p q a free = record {
 }
 
 -- the form of a line, both ways
-not-number : (f : Field) → isNumber f ≡ false → f ≡ Bad
-unfolding isNumber
+not-number : (f : Field) → isNumber f ≡ false → BadField f
+unfolding isNumber BadField
 not-number (Number x) e = let z : _≡_ {A = ℕ} 0 1 = cc in absurd (omega arith)
-not-number Bad e = refl
+not-number Blank e = tt
+not-number Bad e = tt
 
 numbered-good : (f g : Field) (e : ℕ) → isNumber f ≡ true → isNumber g ≡ true → eqb e 10 ≡ true → numbered f g e ≡ true
 unfolding numbered
 numbered-good f g e u v w = simp (u, v, w)
 
 Misformed : ℕ → Field → Field → ℕ → ℕ → ℕ → Type 0
-Misformed c f g e a b = ((c ≡ a → ⊥) × (c ≡ b → ⊥)) ⊎ ((f ≡ Bad) ⊎ ((g ≡ Bad) ⊎ (e ≡ 10 → ⊥)))
+Misformed c f g e a b = ((c ≡ a → ⊥) × (c ≡ b → ⊥)) ⊎ (BadField f ⊎ (BadField g ⊎ (e ≡ 10 → ⊥)))
 
 formed-false : (c : ℕ) (f g : Field) (e a b : ℕ) → formed c f g e a b ≡ false → Misformed c f g e a b
 unfolding formed Misformed
@@ -75,19 +76,20 @@ formed-false c f g e a b h = go (eqb c a) (eqb c b) refl refl
     go false true u v = rest (isNumber f) (isNumber g) (eqb e 10) refl refl refl (simp (u, v) at h)
     go false false u v = inl (eqb-false c a u, eqb-false c b v)
 
-number-not-bad : (f : Field) (x : ℕ) → f ≡ Number x → f ≡ Bad → ⊥
-number-not-bad f x p q = let z : _≡_ {A = ℕ} 0 1 = cc in omega arith
+number-not-bad : (f : Field) (x : ℕ) → f ≡ Number x → BadField f → ⊥
+unfolding BadField
+number-not-bad f x p q = subst BadField p q
 
 -- the second field of each kind of line
-pub position-second : (text : List ℕ) (i : ℕ) → PositionLine text i → BadSecond text i ↔ (markAt text i ≡ Bad)
+pub position-second : (text : List ℕ) (i : ℕ) → PositionLine text i → BadSecond text i ↔ BadField (markAt text i)
 unfolding BadSecond
 position-second text i p = (⊎-elim (λ w. w .1) (λ w. absurd (w .0 p)), λ e. inl (p, e))
 
-pub other-second : (text : List ℕ) (i : ℕ) → (PositionLine text i → ⊥) → BadSecond text i ↔ (secondAt text i ≡ Bad)
+pub other-second : (text : List ℕ) (i : ℕ) → (PositionLine text i → ⊥) → BadSecond text i ↔ BadField (secondAt text i)
 unfolding BadSecond
 other-second text i not = (⊎-elim (λ w. absurd (not (w .0))) (λ w. w .1), λ e. inr (not, e))
 
-pub form-good : (text : List ℕ) (i a b : ℕ) (second : Field) → BadSecond text i ↔ (second ≡ Bad) → Allowed text i (letterAt text i) →
+pub form-good : (text : List ℕ) (i a b : ℕ) (second : Field) → BadSecond text i ↔ BadField second → Allowed text i (letterAt text i) →
     Formed (letterAt text i) (firstAt text i) second (endAt text i) a b → BadForm text i → ⊥
 unfolding BadForm
 form-good text i a b second same allowed w bad =
@@ -96,7 +98,7 @@ form-good text i a b second same allowed w bad =
     (⊎-elim (λ e. number-not-bad second _ (w .second-number) (same .0 e)) (λ no. no (w .ends))))
     (bad .1)
 
-form-bad : (text : List ℕ) (i a b : ℕ) (second : Field) → BadSecond text i ↔ (second ≡ Bad) → i ≤ positionsOf text + movesOf text →
+form-bad : (text : List ℕ) (i a b : ℕ) (second : Field) → BadSecond text i ↔ BadField second → i ≤ positionsOf text + movesOf text →
     (Allowed text i (letterAt text i) → (letterAt text i ≡ a) ⊎ (letterAt text i ≡ b)) → Misformed (letterAt text i) (firstAt text i) second (endAt text i) a b → BadForm text i
 unfolding BadForm Misformed
 form-bad text i a b second same inside only w =

@@ -1,28 +1,46 @@
--- A chart's line as what it reads: the bytes of a line from its columns, and its columns from its bytes. Both are the laws of a line of two
--- numbers; a field that reads as a number is the entry of that number.
+-- A chart's line as what it reads: the bytes of a line from its columns, its columns from its bytes, and its form. The first two are the
+-- laws of a line of two numbers; a field that reads as a number is the entry of that number.
 use Prim.Native.Nat.{ℕ, _+_, _*_, _≤_}
 use native.Mathlib.Omega.{arith}
 use mathlib.Core.Path.{_≡_, sym, ap, _∙_, subst}
+use mathlib.Core.Logic.{_⊎_, inl, inr, ⊎-elim}
 use mathlib.Core.List.{List, [], _∷_, _++_}
 use lib.ListN.{length, drop}
 use Rattle.field.specs.Laws.{field-small}
+use Rattle.field.specs.declared.Field.{Field}
 use Rattle.field.specs.declared.Field.the-variants.{Number}
 use Rattle.line.specs.Text.{FieldsRead, LineReads}
 use Rattle.line.specs.Entries.{Writable, number-entry}
 use Rattle.line.specs.LineLaws.{AllWritable, line-stands, line-reads}
 use Rattle.line.specs.declared.Entry.the-variants.{Number as Of}
-use Rattle.chart.specs.Text.{letterAt, firstAt, secondAt, endAt}
+use Rattle.chart.specs.Text.{letterAt, firstAt, secondAt, endAt, fieldNumber}
 use Rattle.chart.specs.Meaning.{chartLine}
+use Rattle.chart.specs.Good.{Formed}
 
--- line i has this letter, these numbers and a line feed
-pub record Reads (text : List ℕ) (i letter first second : ℕ) : Type 0 where
+-- line i has this letter, this number, this field and a line feed
+pub record Reads (text : List ℕ) (i letter first : ℕ) (second : Field) : Type 0 where
   pub letter-is : letterAt text i ≡ letter
   pub first-is : firstAt text i ≡ Number first
-  pub second-is : secondAt text i ≡ Number second
+  pub second-is : secondAt text i ≡ second
   pub end-is : endAt text i ≡ 10
 
+-- a field that reads as a number
+pub number-again : (f : Field) (x : ℕ) → f ≡ Number x → (f ≡ Number (fieldNumber f)) × (fieldNumber f ≡ x)
+unfolding fieldNumber
+number-again f x e = (e ∙ ap (λ (g : Field). Number (fieldNumber g)) (sym e), ap fieldNumber e)
+
+-- the form of a line that reads so, where what its second field stands for is a number
+pub reads-formed : (text : List ℕ) (i letter first : ℕ) (second stands : Field) (x a b : ℕ) → Reads text i letter first second → stands ≡ Number x → (letter ≡ a) ⊎ (letter ≡ b) →
+    Formed (letterAt text i) (firstAt text i) stands (endAt text i) a b
+reads-formed text i letter first second stands x a b r s w = record {
+  allowed = ⊎-elim (λ e. inl (r .letter-is ∙ e)) (λ e. inr (r .letter-is ∙ e)) w;
+  first-number = number-again (firstAt text i) first (r .first-is) .0;
+  second-number = number-again stands x s .0;
+  ends = r .end-is;
+}
+
 -- a line that reads so has these bytes
-pub reads-bytes : (text : List ℕ) (i letter first second : ℕ) → (i + 1) * 12 ≤ length text → Reads text i letter first second →
+pub reads-bytes : (text : List ℕ) (i letter first second : ℕ) → (i + 1) * 12 ≤ length text → Reads text i letter first (Number second) →
     drop (i * 12) text ≡ chartLine letter first second ++ drop ((i + 1) * 12) text
 unfolding letterAt firstAt secondAt endAt FieldsRead AllWritable Writable
 reads-bytes text i letter first second h r =
@@ -39,7 +57,7 @@ reads-bytes text i letter first second h r =
 
 -- and the bytes of a line, behind the lines before it, read so
 pub bytes-read : (text before rest : List ℕ) (i letter first second : ℕ) → first ≤ 99999 → second ≤ 99999 → length before ≡ i * 12 →
-    text ≡ before ++ (chartLine letter first second ++ rest) → Reads text i letter first second
+    text ≡ before ++ (chartLine letter first second ++ rest) → Reads text i letter first (Number second)
 unfolding letterAt firstAt secondAt endAt FieldsRead AllWritable Writable
 bytes-read text before rest i letter first second f s l e =
     let r = subst (λ (t : List ℕ). LineReads t (i * 12) letter (Of first ∷ Of second ∷ [])) (sym e) (line-reads before rest (i * 12) letter (Of first ∷ Of second ∷ []) l (f, (s, tt))) in

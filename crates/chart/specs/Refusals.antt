@@ -5,7 +5,8 @@ use mathlib.Core.Path.{_≡_}
 use mathlib.Core.Logic.{_⊎_}
 use mathlib.Core.List.{List}
 use lib.ListN.{length}
-use Rattle.field.specs.declared.Field.the-variants.{Bad}
+use Rattle.field.specs.declared.Field.{Field}
+use Rattle.field.specs.declared.Field.the-variants.{Number, Blank, Bad}
 use Rattle.chart.specs.Text.{letterAt, firstAt, secondAt, endAt, markAt, fieldNumber, positionsOf, movesOf, fromAt, toAt}
 use Rattle.chart.specs.Meaning.{moveOn, Rises}
 use Rattle.refusal.specs.Numbers.{misdrawnLine}
@@ -29,15 +30,21 @@ Allowed text i letter =
     ((i ≡ 0) × (letter ≡ 72))
     ⊎ ((PositionLine text i × ((letter ≡ 79) ⊎ (letter ≡ 76))) ⊎ (MoveLine text i × ((letter ≡ 77) ⊎ (letter ≡ 68))))
 
+-- a field where a number has to stand has none: "a blank anywhere else in a chart is still refused with 2" (document 02, order 1)
+unfoldable pub BadField : Field → Type 0
+BadField (Number x) = ⊥
+BadField Blank = Unit {0}
+BadField Bad = Unit {0}
+
 -- the second field of a line is bad; on a position line that is its mark
 unfoldable pub BadSecond : List ℕ → ℕ → Type 0
-BadSecond text i = (PositionLine text i × (markAt text i ≡ Bad)) ⊎ ((PositionLine text i → ⊥) × (secondAt text i ≡ Bad))
+BadSecond text i = (PositionLine text i × BadField (markAt text i)) ⊎ ((PositionLine text i → ⊥) × BadField (secondAt text i))
 
 -- 2: "letter not allowed at this line, bad field or no line feed"
 unfoldable pub BadForm : List ℕ → ℕ → Type 0
 BadForm text i =
     (i ≤ positionsOf text + movesOf text)
-    × ((Allowed text i (letterAt text i) → ⊥) ⊎ ((firstAt text i ≡ Bad) ⊎ (BadSecond text i ⊎ (endAt text i ≡ 10 → ⊥))))
+    × ((Allowed text i (letterAt text i) → ⊥) ⊎ (BadField (firstAt text i) ⊎ (BadSecond text i ⊎ (endAt text i ≡ 10 → ⊥))))
 
 -- 3: "n or m outside its limits"
 unfoldable pub OutsideLimits : List ℕ → Type 0

@@ -6,7 +6,7 @@ use mathlib.Core.List.{List}
 use Rattle.field.specs.Text.{fieldAt}
 use Rattle.line.specs.Text.{lineLetter, lineField, lineEnd}
 use Rattle.field.specs.declared.Field.{Field}
-use Rattle.field.specs.declared.Field.the-variants.{Number, Bad}
+use Rattle.field.specs.declared.Field.the-variants.{Number, Blank, Bad}
 
 -- the letter of line i
 unfoldable pub letterAt : List ℕ → ℕ → ℕ
@@ -22,17 +22,25 @@ secondAt text i = fieldAt text (lineField 2 i 1)
 unfoldable pub endAt : List ℕ → ℕ → ℕ
 endAt text i = lineEnd 2 text i
 
+-- "A blank mark in a position line means 0" (document 02, order 1)
+unfoldable pub markOf : Field → Field
+markOf (Number x) = Number x
+markOf Blank = Number 0
+markOf Bad = Bad
+
 -- the mark on position line i
 unfoldable pub markAt : List ℕ → ℕ → Field
-markAt text i = secondAt text i
+markAt text i = markOf (secondAt text i)
 
--- the number of a field; a bad field's is never used
+-- the number of a field; that of a blank or a bad one is never used
 unfoldable pub fieldNumber : Field → ℕ
 fieldNumber (Number x) = x
+fieldNumber Blank = 0
 fieldNumber Bad = 0
 
 unfoldable pub isNumber : Field → Bool
 isNumber (Number x) = true
+isNumber Blank = false
 isNumber Bad = false
 
 -- the counts n and m in the header

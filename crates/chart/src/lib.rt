@@ -4,7 +4,7 @@ ghost use mathlib.Core.Path.{_≡_};
 ghost use mathlib.Core.Bool.{cond, false};
 ghost use Prim.Native.Nat.{ℕ, _+_, _-_, _*_, _≤_, _<_};
 ghost use lib.ListN.{length, getD};
-ghost use Rattle.chart.specs.Text.{letterAt, fieldNumber};
+ghost use Rattle.chart.specs.Text.{letterAt, markOf, fieldNumber};
 ghost use Rattle.chart.specs.Columns.{rowAt, meantRow};
 ghost use Rattle.chart.specs.Meaning.{costOf};
 ghost use Rattle.chart.specs.Examined.{numbered, formed, headerOf, limitsOf, positionRowFinding, judgedPosition, moveFinding, judgedMove, ordered, above, lineFinding, firstFault, meantIn, unflaggedAt, afterHeader, examined};
@@ -160,15 +160,27 @@ fn line_fault(text: &[u8], n: usize, line: usize, row: Row, before: Row) -> Find
     }
 }
 
-// A position line from its columns, of which the second field is the mark.
+// A position line from its columns, of which the second field is the mark. A blank is taken here and nowhere else.
 fn position_fault(line: usize, row: Row) -> Finding
     requires { ⌜ 1 ≤ line ⌝ }
     ensures { λ r. ⌜ r ≡ positionRowFinding row line ⌝ }
 {
     let first = row.first;
-    let mark = row.second;
+    let second = row.second;
+    let mark = mark(second);
     let ok = formed(row.letter, first, mark, row.end, b'O', b'L');
     judge_position(ok, line, number(first), number(mark))
+}
+
+// A blank mark is 0.
+fn mark(f: Field) -> Field
+    ensures { λ r. ⌜ r ≡ markOf f ⌝ }
+{
+    match f {
+        Field::Number(x) => Field::Number(x),
+        Field::Blank => Field::Number(0),
+        Field::Bad => Field::Bad,
+    }
 }
 
 fn judge_position(ok: bool, line: usize, position: usize, mark: usize) -> Finding
@@ -309,11 +321,13 @@ fn numbered(first: Field, second: Field, end: u8) -> bool
     ensures { λ r. ⌜ r ≡ numbered first second end ⌝ }
 {
     match first {
-        Field::Bad => false,
         Field::Number(_) => match second {
-            Field::Bad => false,
             Field::Number(_) => end == 10,
+            Field::Blank => false,
+            Field::Bad => false,
         },
+        Field::Blank => false,
+        Field::Bad => false,
     }
 }
 
@@ -356,12 +370,13 @@ fn letter_at(text: &[u8], line: usize) -> u8
     if at < text.len() { text[at] } else { 0 }
 }
 
-// A field's number; 0 stands for a bad field.
+// A field's number; 0 stands for a field that has none.
 fn number(f: Field) -> usize
     ensures { λ r. ⌜ r ≡ fieldNumber f ⌝ }
 {
     match f {
         Field::Number(x) => x as usize,
+        Field::Blank => 0,
         Field::Bad => 0,
     }
 }

@@ -1,14 +1,16 @@
 -- The rows of an accepted text, decoded line by line, are its arena's.
 use Prim.Native.Nat.{ℕ, _+_, _*_, _≤_, _<_}
 use native.Mathlib.Omega.{arith}
-use mathlib.Core.Path.{_≡_, sym, ap, subst, _∙_}
+use mathlib.Core.Path.{_≡_, refl, sym, ap, subst, _∙_}
 use mathlib.Core.List.{List}
 use lib.ListN.{length}
 use Rattle.rows.specs.Rows.{RowIs, Filled, Kept, ownerNumber}
 use Rattle.game.specs.Arena.{Position, Move}
-use Rattle.field.specs.Text.{decimalAt}
-use Rattle.field.specs.Laws.{field-spells}
-use Rattle.chart.specs.Text.{letterAt, firstAt, secondAt, markAt, fieldNumber, positionsOf, movesOf, fromAt, toAt}
+use Rattle.field.specs.Text.{fieldAt, decimalAt}
+use Rattle.field.specs.Laws.{field-spells, blank-spells}
+use Rattle.field.specs.declared.Field.{Field}
+use Rattle.field.specs.declared.Field.the-variants.{Number, Blank, Bad}
+use Rattle.chart.specs.Text.{letterAt, firstAt, secondAt, markOf, markAt, fieldNumber, positionsOf, movesOf, fromAt, toAt}
 use Rattle.chart.specs.Meaning.{costOf, positionOn, moveOn, arenaOf}
 use Rattle.chart.specs.Examined.{headerOf, examined}
 use Rattle.chart.specs.Header.{header-accepts}
@@ -37,15 +39,24 @@ pub record MovesFit (text : List ℕ) (first m : ℕ) : Type 0 where
   pub from-spelt : (i : ℕ) → i < m → decimalAt text ((first + i) * 12 + 1) ≡ fromAt text (first + i)
   pub to-spelt : (i : ℕ) → i < m → decimalAt text ((first + i) * 12 + 6) ≡ toAt text (first + i)
 
+-- the bytes of a good mark spell it, those of a blank too
+mark-spells : (text : List ℕ) (i : ℕ) → markAt text i ≡ Number (fieldNumber (markAt text i)) → decimalAt text (i * 12 + 6) ≡ fieldNumber (markAt text i)
+unfolding markAt markOf fieldNumber secondAt
+mark-spells text i e = go (fieldAt text (i * 12 + 6)) refl
+  where
+    go : (f : Field) → fieldAt text (i * 12 + 6) ≡ f → decimalAt text (i * 12 + 6) ≡ fieldNumber (markOf (fieldAt text (i * 12 + 6)))
+    go (Number x) p = field-spells text (i * 12 + 6) x p ∙ sym (ap (λ (f : Field). fieldNumber (markOf f)) p)
+    go Blank p = blank-spells text (i * 12 + 6) p ∙ sym (ap (λ (f : Field). fieldNumber (markOf f)) p)
+    go Bad p = let bad : Bad ≡ Number _ = sym (ap markOf p) ∙ e in let z : _≡_ {A = ℕ} 0 1 = cc in absurd (omega arith)
+
 good-positions : (text : List ℕ) → GoodChart text → PositionsFit text (positionsOf text)
-unfolding markAt secondAt
 good-positions text g =
     let l = g .limits in
     record {
       few = l .positions;
       room = omega arith;
       small = λ v h. g .position (v + 1) (omega arith) (omega arith) .small;
-      mark-spelt = λ v h. field-spells text ((v + 1) * 12 + 6) _ (g .position (v + 1) (omega arith) (omega arith) .form .second-number);
+      mark-spelt = λ v h. mark-spells text (v + 1) (g .position (v + 1) (omega arith) (omega arith) .form .second-number);
     }
 
 good-moves : (text : List ℕ) → GoodChart text → MovesFit text (positionsOf text + 1) (movesOf text)

@@ -25,7 +25,7 @@ use Rattle.game.specs.Choice.{IsChoice}
 use Rattle.game.specs.RoundValues.{rounds-give-the-values}
 use Rattle.game.specs.FirstLine.{firstOfPair, pairCount, higher, highest, everCount}
 use Rattle.field.specs.Text.{digitAfter, stepped, scan, ended, fieldOf, five, fieldAt, placeByte, numberText}
-use Rattle.chart.specs.Text.{letterAt, firstAt, secondAt, endAt, markAt, fieldNumber, isNumber, positionsOf, movesOf, fromAt, toAt}
+use Rattle.chart.specs.Text.{letterAt, firstAt, secondAt, endAt, markOf, markAt, fieldNumber, isNumber, positionsOf, movesOf, fromAt, toAt}
 use Rattle.chart.specs.Meaning.{ownerOf, costOf, positionOn, moveOn, arenaOf}
 use Rattle.chart.specs.Examined.{numbered, formed, headerFormed, positionFormed, moveFormed, limitsOf, headerOf, judgedPosition, positionFinding, above, rises, ordered, judgedMove, moveFinding, lineFinding, orElse, meantLine, meantIn, missingAt, unflaggedAt, answer, afterHeader, linesAfter, examined}
 use Rattle.chart.specs.Accepted.{accepted-chartable}
@@ -76,7 +76,7 @@ countsRight n values steps rounds top evers =
 
 -- computed, with all that they stand on
 unfoldable pub passes : List ℕ → Expected → Bool
-unfolding examined linesAfter afterHeader answer unflaggedAt missingAt meantIn meantLine firstFrom orElse lineFinding moveFinding judgedMove ordered rises above positionFinding judgedPosition headerOf limitsOf moveFormed positionFormed headerFormed formed numbered toAt fromAt movesOf positionsOf isNumber fieldNumber markAt endAt secondAt firstAt letterAt fieldAt five fieldOf ended scan stepped digitAfter lineText fieldsText entryText numberText placeByte arenaOf joined positionOn moveOn ownerOf costOf isRefused isAccepted rowsRight countsRight agree eqV ltV roundValue roundStep placedValue placedStep table tableBefore tableAfter place isPlaced hasValue begins ready readyAs someMove everyMove meantFrom disturbanceFrom bestAt bestAs bestIn better pairCount firstOfPair countBelow someBelow highest higher everCount
+unfolding examined linesAfter afterHeader answer unflaggedAt missingAt meantIn meantLine firstFrom orElse lineFinding moveFinding judgedMove ordered rises above positionFinding judgedPosition headerOf limitsOf moveFormed positionFormed headerFormed formed numbered toAt fromAt movesOf positionsOf isNumber fieldNumber markOf markAt endAt secondAt firstAt letterAt fieldAt five fieldOf ended scan stepped digitAfter lineText fieldsText entryText numberText placeByte arenaOf joined positionOn moveOn ownerOf costOf isRefused isAccepted rowsRight countsRight agree eqV ltV roundValue roundStep placedValue placedStep table tableBefore tableAfter place isPlaced hasValue begins ready readyAs someMove everyMove meantFrom disturbanceFrom bestAt bestAs bestIn better pairCount firstOfPair countBelow someBelow highest higher everCount
 passes text (refusal number line) = isRefused (examined text) number line
 passes text (plate values choices steps rounds top evers) =
     isAccepted (examined text) && (rowsRight (arenaOf text) values choices steps && countsRight (size (arenaOf text)) values steps rounds top evers)

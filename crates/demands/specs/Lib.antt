@@ -4,10 +4,12 @@ pub mod Demand1
 pub mod Demand2
 pub mod Journal
 pub mod Demand3
+pub mod BlankMarks
 pub mod EdgeCharts
 pub mod SanctionedLaws
 pub mod Demand1Holds
 pub mod ReadBack
 pub mod Printed
 pub mod Demand3Holds
+pub mod BlankMarksHold
 pub mod EdgeChartsHold

@@ -1,5 +1,6 @@
 -- Reading and writing are each other's inverse: five bytes read as x exactly when they are the bytes of x, x at most
--- 99,999. From bytes to text: what `scan` took is spaces and then a lone zero or digits, which say what x is; the place of each
+-- 99,999; as blank exactly when they are five spaces; and are bad otherwise. From bytes to text: what `scan` took is spaces and then a
+-- lone zero or digits, which say what x is; the place of each
 -- digit then follows by arithmetic. From text to bytes: by how many digits x has.
 use Prim.Native.Nat.{ℕ, zero, suc, _+_, _-_, _*_, _/_, _%_, _≤_, _<_}
 use native.Mathlib.Omega.{arith}
@@ -13,9 +14,9 @@ use lib.ListN.{length, take, drop}
 use lib.Seq.{getD-drop, sets-eq, drop-at, drop-cons, length-take-le}
 use lib.Dec.{ltb, eqb}
 use borrow.Author.Tests.{ltb-true, ltb-false, eqb-true, eqb-false, lt-ltb, le-ltb, ne-eqb}
-use Rattle.field.specs.Text.{Scan, Spaces, Zero, Digits, Wrong, digitAfter, stepped, scan, ended, fieldOf, five, fieldAt, decimal, decimalAt, placeByte, numberText, withNumber}
+use Rattle.field.specs.Text.{Scan, Spaces, Zero, Digits, Wrong, digitAfter, stepped, scan, ended, fieldOf, five, fieldAt, decimal, decimalAt, placeByte, blankText, numberText, withNumber}
 use Rattle.field.specs.declared.Field.{Field}
-use Rattle.field.specs.declared.Field.the-variants.{Number, Bad}
+use Rattle.field.specs.declared.Field.the-variants.{Number, Blank, Bad}
 
 -- a digit d after digits that spell x
 digit-after : (x d : ℕ) → x ≤ 9999 → d < 10 → digitAfter x (48 + d) ≡ Digits (x * 10 + d)
@@ -89,7 +90,7 @@ zero-alone (b ∷ bs) x e = absurd (wrong-reads bs x e)
 
 front : (bs : List ℕ) (x : ℕ) → ended (scan Spaces bs) ≡ Number x → Front bs x
 unfolding Front scan stepped ended
-front [] x e = not-number x Bad refl e
+front [] x e = let z : _≡_ {A = ℕ} 0 1 = cc in omega arith
 front (b ∷ bs) x e = go (eqb b 32) (eqb b 48) refl refl (front bs x)
   where
     go : (p q : Bool) → eqb b 32 ≡ p → eqb b 48 ≡ q → (ended (scan Spaces bs) ≡ Number x → Front bs x) → Front (b ∷ bs) x
@@ -224,7 +225,85 @@ number-reads x h =
 pub field-exact : (bytes : List ℕ) (x : ℕ) → length bytes ≡ 5 → fieldOf bytes ≡ Number x ↔ (bytes ≡ numberText x) × (x ≤ 99999)
 field-exact bytes x l = (reads-number bytes x l, λ w. ap fieldOf (w .0) ∙ number-reads x (w .1))
 
--- and those bytes spell it without a test
+-- Blanks
+
+wrong-is-bad : (bs : List ℕ) → ended (scan Wrong bs) ≡ Bad
+unfolding ended
+wrong-is-bad bs = ap ended (wrong-stays bs)
+
+not-blank : (f : Field) (x : ℕ) → (f ≡ Number x) ⊎ (f ≡ Bad) → f ≡ Blank → ⊥
+not-blank f x w e = ⊎-elim (λ p. let z : _≡_ {A = ℕ} 0 1 = cc in omega arith) (λ p. let z : _≡_ {A = ℕ} 0 1 = cc in omega arith) w
+
+-- what has begun with a digit is no blank
+zero-not-blank : (bs : List ℕ) → ended (scan Zero bs) ≡ Blank → ⊥
+unfolding scan stepped ended
+zero-not-blank [] e = not-blank (Number 0) 0 (inl refl) e
+zero-not-blank (b ∷ bs) e = not-blank (ended (scan Wrong bs)) 0 (inr (wrong-is-bad bs)) e
+
+digits-not-blank : (y : ℕ) (bs : List ℕ) → ended (scan (Digits y) bs) ≡ Blank → ⊥
+unfolding scan stepped ended
+digits-not-blank y [] e = not-blank (Number y) y (inl refl) e
+digits-not-blank y (b ∷ bs) e =
+    ⊎-elim
+    (λ w. not-blank (ended (scan Wrong bs)) 0 (inr (wrong-is-bad bs)) (subst (λ (s : Scan). ended (scan s bs) ≡ Blank) w e))
+    (λ w. digits-not-blank (y * 10 + w .0) bs (subst (λ (s : Scan). ended (scan s bs) ≡ Blank) (w .3) e))
+    (digit-back y b)
+
+-- so a blank goes on with spaces
+blank-front : (b : ℕ) (bs : List ℕ) → fieldOf (b ∷ bs) ≡ Blank → (b ≡ 32) × (fieldOf bs ≡ Blank)
+unfolding fieldOf scan stepped
+blank-front b bs e = go (eqb b 32) (eqb b 48) refl refl
+  where
+    go : (p q : Bool) → eqb b 32 ≡ p → eqb b 48 ≡ q → (b ≡ 32) × (ended (scan Spaces bs) ≡ Blank)
+    go true q f g = (eqb-true b 32 f, simp f at e)
+    go false true f g = absurd (zero-not-blank bs (simp (f, g) at e))
+    go false false f g =
+        absurd
+        (⊎-elim
+        (λ w. not-blank (ended (scan Wrong bs)) 0 (inr (wrong-is-bad bs)) (subst (λ (s : Scan). ended (scan s bs) ≡ Blank) w (simp (f, g) at e)))
+        (λ w. digits-not-blank (0 * 10 + w .0) bs (subst (λ (s : Scan). ended (scan s bs) ≡ Blank) (w .3) (simp (f, g) at e)))
+        (digit-back 0 b))
+
+reads-blank : (bytes : List ℕ) → length bytes ≡ 5 → fieldOf bytes ≡ Blank → bytes ≡ blankText
+unfolding blankText
+reads-blank [] l h = absurd (omega arith)
+reads-blank (a ∷ []) l h = absurd (omega arith)
+reads-blank (a ∷ b ∷ []) l h = absurd (omega arith)
+reads-blank (a ∷ b ∷ c ∷ []) l h = absurd (omega arith)
+reads-blank (a ∷ b ∷ c ∷ d ∷ []) l h = absurd (omega arith)
+reads-blank (a ∷ b ∷ c ∷ d ∷ e ∷ []) l h =
+    let one = blank-front a (b ∷ c ∷ d ∷ e ∷ []) h in
+    let two = blank-front b (c ∷ d ∷ e ∷ []) (one .1) in
+    let three = blank-front c (d ∷ e ∷ []) (two .1) in
+    let four = blank-front d (e ∷ []) (three .1) in
+    let last = blank-front e [] (four .1) in
+    cc (one .0, two .0, three .0, four .0, last .0)
+reads-blank (a ∷ b ∷ c ∷ d ∷ e ∷ f ∷ bs) l h = absurd (omega arith)
+
+pub blank-reads : fieldOf blankText ≡ Blank
+unfolding fieldOf blankText scan stepped ended
+blank-reads = refl
+
+-- five bytes read as blank exactly when they are five spaces
+pub blank-exact : (bytes : List ℕ) → length bytes ≡ 5 → fieldOf bytes ≡ Blank ↔ bytes ≡ blankText
+blank-exact bytes l = (reads-blank bytes l, λ e. ap fieldOf e ∙ blank-reads)
+
+-- and are bad exactly when they are neither these nor the bytes of a number
+pub bad-exact : (bytes : List ℕ) → length bytes ≡ 5 → fieldOf bytes ≡ Bad ↔ (bytes ≡ blankText → ⊥) × ((x : ℕ) → x ≤ 99999 → bytes ≡ numberText x → ⊥)
+bad-exact bytes l = (
+  (λ bad. (
+    (λ e. not-blank (fieldOf bytes) 0 (inr bad) (blank-exact bytes l .1 e)),
+    λ x h e. not-number x (fieldOf bytes) bad (field-exact bytes x l .1 (e, h)),
+  )),
+  λ w. go w (fieldOf bytes) refl,
+)
+  where
+    go : (bytes ≡ blankText → ⊥) × ((x : ℕ) → x ≤ 99999 → bytes ≡ numberText x → ⊥) → (f : Field) → fieldOf bytes ≡ f → fieldOf bytes ≡ Bad
+    go w (Number x) e = let r = field-exact bytes x l .0 e in absurd (w .1 x (r .1) (r .0))
+    go w Blank e = absurd (w .0 (blank-exact bytes l .0 e))
+    go w Bad e = e
+
+-- The number that a field spells, without a test
 low-digit : (d : ℕ) → d < 10 → (48 + d) % 16 ≡ d
 low-digit d h = omega arith
 
@@ -261,6 +340,11 @@ unfolding fieldAt decimalAt five
 field-spells text at x e =
     let r = reads-number (five text at) x refl e in
     ap (decimal 0) (r .0) ∙ number-spells x (r .1)
+
+-- a blank spells 0
+pub blank-spells : (text : List ℕ) (at : ℕ) → fieldAt text at ≡ Blank → decimalAt text at ≡ 0
+unfolding fieldAt decimalAt five decimal blankText
+blank-spells text at e = ap (decimal 0) (reads-blank (five text at) refl e)
 
 -- the field at `at` is that of what follows `at`
 pub field-of-rest : (text : List ℕ) (at : ℕ) → fieldAt text at ≡ fieldAt (drop at text) 0

@@ -9,7 +9,7 @@ use lib.Dec.{ltb, leb, eqb}
 use borrow.Author.Tests.{ltb-false, leb-true, leb-false, eqb-true, le-ltb, lt-ltb, not-true, not-false}
 use Rattle.field.specs.Text.{Scan, Digits, Wrong, digitAfter, stepped, scan, ended, fieldOf}
 use Rattle.field.specs.Laws.{wrong-stays}
-use Rattle.field.specs.declared.Field.the-variants.{Number, Bad}
+use Rattle.field.specs.declared.Field.the-variants.{Number, Blank, Bad}
 
 false-true : _≡_ {A = Bool} false true → ⊥
 false-true e = let z : _≡_ {A = ℕ} 0 1 = cc in omega arith
@@ -67,7 +67,7 @@ pub space : (b : ℕ) (bs : List ℕ) → b ≡ 32 → fieldOf (b ∷ bs) ≡ fi
 unfolding fieldOf scan stepped
 space b bs e = rw e
 
-pub blank : fieldOf [] ≡ Bad
+pub blank : fieldOf [] ≡ Blank
 unfolding fieldOf scan ended
 blank = refl
 

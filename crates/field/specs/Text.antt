@@ -1,5 +1,6 @@
 -- What five bytes read as, and the five bytes of a number: "A field is a number right-justified after spaces, with no
--- leading zero save "0" itself" (document 01, "The chart").
+-- leading zero save "0" itself" (document 01, "The chart"); "Reading a field gets a third outcome, blank (five spaces)" (document 02,
+-- order 1).
 use Prim.Native.Nat.{ℕ, _+_, _-_, _*_, _/_, _%_}
 use mathlib.Core.Bool.{cond}
 use mathlib.Core.List.{List, [], _∷_}
@@ -7,7 +8,7 @@ use lib.ListN.{getD}
 use lib.Seq.{sets}
 use lib.Dec.{ltb, eqb}
 use Rattle.field.specs.declared.Field.{Field}
-use Rattle.field.specs.declared.Field.the-variants.{Number, Bad}
+use Rattle.field.specs.declared.Field.the-variants.{Number, Blank, Bad}
 
 -- what the bytes of a field so far are: only spaces, a lone zero, a number without a leading zero, or no field
 pub data Scan : Type 0 where
@@ -32,7 +33,7 @@ scan s [] = s
 scan s (b ∷ bs) = scan (stepped s b) bs
 
 unfoldable pub ended : Scan → Field
-ended Spaces = Bad
+ended Spaces = Blank
 ended Zero = Number 0
 ended (Digits x) = Number x
 ended Wrong = Bad
@@ -60,6 +61,10 @@ decimalAt text at = decimal 0 (five text at)
 -- the byte of x in the place of `unit`: a space before the first digit
 unfoldable pub placeByte : ℕ → ℕ → ℕ
 placeByte x unit = cond (ltb x unit) 32 (48 + x / unit % 10)
+
+-- the five bytes of a blank
+unfoldable pub blankText : List ℕ
+blankText = 32 ∷ 32 ∷ 32 ∷ 32 ∷ 32 ∷ []
 
 -- the five bytes of x
 unfoldable pub numberText : ℕ → List ℕ

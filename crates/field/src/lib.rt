@@ -1,5 +1,5 @@
 // The five-byte field of charts and plates (document 01, "The chart"): a number from 0 to 99,999, right-justified after
-// spaces, with no leading zero save "0" itself. Reading and writing are each other's inverse (specs/Laws.antt).
+// spaces, with no leading zero save "0" itself; or blank, five spaces. Reading and writing are each other's inverse (specs/Laws.antt).
 ghost use mathlib.Core.Path.{_≡_};
 ghost use mathlib.Core.Bool.{cond};
 ghost use mathlib.Core.List.{[], _∷_};
@@ -9,9 +9,10 @@ ghost use lib.Dec.{eqb};
 ghost use Rattle.field.specs.Text.{Digits, scan, ended, fieldAt, decimalAt, withNumber, placeByte};
 ghost use Rattle.field.specs.Reader.{isDigit};
 
-// What five bytes read as.
+// What five bytes read as. Whether a blank is taken is its sheet's matter.
 pub enum Field {
     Number(u32),
+    Blank,
     Bad,
 }
 
@@ -40,11 +41,11 @@ pub fn read(text: &[u8], at: usize) -> Field
     if e != b' ' {
         return digits(b'0', b'0', b'0', b'0', e);
     }
-    Field::Bad
+    Field::Blank
 }
 
 // The number of a field that was found to be one. No byte is tested again: a digit's last four bits are its worth, and a space's
-// are 0. The bound keeps the five bytes within the text.
+// are 0: so a blank is 0 too. The bound keeps the five bytes within the text.
 pub fn decimal(text: &[u8], at: usize) -> u32
     requires { ⌜ at + 5 ≤ length (now text) ⌝ }
     ensures { λ r. ⌜ r ≡ decimalAt (now (text .entry)) at ⌝ }

@@ -19,8 +19,9 @@ struct Next {
     run: Run,
 }
 
+// The input has more bytes than io's large buffer.
 fn main() {
-    let mut input = io::large_buffer();
+    let mut input = [0u8; 131072];
     let got = io::read_full(STDIN_FILENO, &mut input);
     cases(&input[..got]);
     charts::longest();
@@ -28,12 +29,12 @@ fn main() {
     plates::rows();
 }
 
-// The cases of the input, of which there are fewer than 400.
+// The cases of the input, of which there are fewer than 600.
 fn cases(input: &[u8]) {
     let mut at: usize = 0;
     let mut run = Run::none();
     let mut k: usize = 0;
-    while k < 400 {
+    while k < 600 {
         let next = show_case(input, case_at(input, at), run);
         at = next.at;
         run = next.run;
@@ -97,7 +98,7 @@ fn answer(job: u8, chart: &[u8], plate: &[u8], words: &[u8], run: Run) -> Run {
         plates::check(chart, plate);
     }
     if job == b'R' {
-        plates::read(chart);
+        plates::read(chart, plate);
     }
     if job == b'D' {
         plates::compare(chart, plate, words);

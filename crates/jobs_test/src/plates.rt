@@ -16,19 +16,22 @@ pub fn check(text: &[u8], plate: &[u8]) {
     }
 }
 
-// A plate of the chart with one position, into rows that hold 7: `A` with rounds, highest value and count of "ever", or `R` with the
-// number and the line of the refusal; then the first value, choice and step and those past them.
-pub fn read(text: &[u8]) {
+// A plate of a chart, or of the one with one position where no chart is given.
+pub fn read(plate: &[u8], chart: &[u8]) {
+    if chart.len() == 0 {
+        read_of(b"H    1    1\nO    0    0\nM    0    0\n", plate);
+    } else {
+        read_of(chart, plate);
+    }
+}
+
+// A plate into rows that hold 7: `A` with rounds, highest value and count of "ever", or `R` with the number and the line of the refusal;
+// then the first two values, choices and steps.
+fn read_of(chart: &[u8], plate: &[u8]) {
     let mut values = [7u16; 2];
     let mut choices = [7u16; 2];
     let mut steps = [7u16; 2];
-    let r = read_plate(
-        b"H    1    1\nO    0    0\nM    0    0\n",
-        text,
-        &mut values,
-        &mut choices,
-        &mut steps,
-    );
+    let r = read_plate(chart, plate, &mut values, &mut choices, &mut steps);
     answer(r);
     numbers(values[0], values[1]);
     numbers(choices[0], choices[1]);
@@ -103,6 +106,7 @@ fn choice(fields: &[u8], at: usize) -> u16
     }
     match field::read(fields, at) {
         Field::Number(x) => (x % 65536) as u16,
+        Field::Blank => 0,
         Field::Bad => 0,
     }
 }

@@ -47,6 +47,7 @@ fn went(run: Run, chart: &[u8], plate: &[u8], to: usize) -> Run {
 fn number(f: Field) -> usize {
     match f {
         Field::Number(x) => x as usize,
+        Field::Blank => 18446744073709551615,
         Field::Bad => 18446744073709551615,
     }
 }

@@ -10,10 +10,10 @@ use lib.ListN.{length, take, drop, length-append}
 use lib.Seq.{take-at, drop-at}
 use lib.Dec.{eqb}
 use borrow.Author.Tests.{eqb-true}
-use Rattle.field.specs.Text.{fieldOf, fieldAt, scan, stepped, digitAfter, ended, five, numberText}
-use Rattle.field.specs.Laws.{field-exact, number-reads, number-text-length, five-splits}
+use Rattle.field.specs.Text.{fieldOf, fieldAt, scan, stepped, digitAfter, ended, five, blankText, numberText}
+use Rattle.field.specs.Laws.{field-exact, number-reads, blank-reads, number-text-length, five-splits}
 use Rattle.field.specs.declared.Field.{Field}
-use Rattle.field.specs.declared.Field.the-variants.{Number as Digits, Bad as Wrong}
+use Rattle.field.specs.declared.Field.the-variants.{Number as Digits, Blank, Bad as Wrong}
 use Rattle.line.specs.Text.{dashText, everText, entryText, sameText, wordOf, orWord, entryOf, entryAt}
 use Rattle.line.specs.declared.Entry.{Entry}
 use Rattle.line.specs.declared.Entry.the-variants.{Number, Dash, Ever, Bad}
@@ -26,7 +26,7 @@ Writable Ever = Unit {0}
 Writable Bad = ⊥
 
 pub entry-text-length : (e : Entry) → length (entryText e) ≡ 5
-unfolding entryText dashText everText
+unfolding entryText dashText everText blankText
 entry-text-length (Number x) = number-text-length x
 entry-text-length Dash = refl
 entry-text-length Ever = refl
@@ -51,10 +51,10 @@ written-entry-reads Dash h = refl
 written-entry-reads Ever h = refl
 written-entry-reads Bad h = absurd h
 
--- a blank field is bad
-pub blank-reads-bad : entryOf (entryText Bad) ≡ Bad
-unfolding entryOf entryText orWord wordOf sameText dashText everText fieldOf scan stepped ended
-blank-reads-bad = refl
+-- a blank is no entry
+pub blank-is-bad : (text : List ℕ) (at : ℕ) → five text at ≡ blankText → entryAt text at ≡ Bad
+unfolding entryAt entryOf orWord
+blank-is-bad text at e = ap entryOf e ∙ ap (orWord blankText) blank-reads
 
 -- an entry that is not bad is read from its bytes only
 pub read-entry-stands : (bytes : List ℕ) (e : Entry) → length bytes ≡ 5 → (e ≡ Bad → ⊥) → entryOf bytes ≡ e → (bytes ≡ entryText e) × Writable e
@@ -66,6 +66,7 @@ read-entry-stands bytes e l good q = go (fieldOf bytes) refl (sameText bytes das
 
     go : (f : Field) → fieldOf bytes ≡ f → (a b : Bool) → sameText bytes dashText ≡ a → sameText bytes everText ≡ b → (bytes ≡ entryText e) × Writable e
     go (Digits x) p a b s t = is (Number x) (simp p) (field-exact bytes x l .0 p)
+    go Blank p a b s t = let bad : entryOf bytes ≡ Bad = simp p in absurd (good (sym q ∙ bad))
     go Wrong p true b s t = is Dash (simp (p, s)) (same-text bytes dashText s, tt)
     go Wrong p false true s t = is Ever (simp (p, s, t)) (same-text bytes everText t, tt)
     go Wrong p false false s t = let bad : entryOf bytes ≡ Bad = simp (p, s, t) in absurd (good (sym q ∙ bad))
@@ -107,4 +108,5 @@ number-entry text at x = ((λ e. ap (orWord (five text at)) e), back (fieldOf (f
   where
     back : (f : Field) → orWord (five text at) f ≡ Number x → f ≡ Digits x
     back (Digits y) e = let same : y ≡ x = cc in ap Digits same
+    back Blank e = let z : _≡_ {A = ℕ} 0 1 = cc in absurd (omega arith)
     back Wrong e = absurd (word-is-no-number (sameText (five text at) dashText) (sameText (five text at) everText) x e)

@@ -7,9 +7,9 @@ use mathlib.Core.List.{List, [], _∷_, _++_}
 use lib.ListN.{length, getD}
 use lib.Seq.{sets}
 use lib.Dec.{eqb}
-use Rattle.field.specs.Text.{fieldOf, five, numberText}
+use Rattle.field.specs.Text.{fieldOf, five, blankText, numberText}
 use Rattle.field.specs.declared.Field.{Field}
-use Rattle.field.specs.declared.Field.the-variants.{Number as Digits, Bad as Wrong}
+use Rattle.field.specs.declared.Field.the-variants.{Number as Digits, Blank, Bad as Wrong}
 use Rattle.line.specs.declared.Entry.{Entry}
 use Rattle.line.specs.declared.Entry.the-variants.{Number, Dash, Ever, Bad}
 
@@ -25,7 +25,7 @@ unfoldable pub entryText : Entry → List ℕ
 entryText (Number x) = numberText x
 entryText Dash = dashText
 entryText Ever = everText
-entryText Bad = 32 ∷ 32 ∷ 32 ∷ 32 ∷ 32 ∷ []
+entryText Bad = blankText
 
 -- two texts are the same
 unfoldable pub sameText : List ℕ → List ℕ → Bool
@@ -38,8 +38,10 @@ sameText (x ∷ xs) (y ∷ ys) = cond (eqb x y) (sameText xs ys) false
 unfoldable pub wordOf : List ℕ → Entry
 wordOf bytes = cond (sameText bytes dashText) Dash (cond (sameText bytes everText) Ever Bad)
 
+-- "a blank anywhere else" than in a mark is bad (document 02, order 1)
 unfoldable pub orWord : List ℕ → Field → Entry
 orWord bytes (Digits x) = Number x
+orWord bytes Blank = Bad
 orWord bytes Wrong = wordOf bytes
 
 -- what five bytes read as

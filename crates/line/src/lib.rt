@@ -36,6 +36,7 @@ pub fn read_entry(text: &[u8], at: usize) -> Entry
 {
     match field::read(text, at) {
         Field::Number(x) => Entry::Number(x),
+        Field::Blank => Entry::Bad,
         Field::Bad => {
             if spells(text, at, b' ', b' ', b' ', b'-') {
                 return Entry::Dash;

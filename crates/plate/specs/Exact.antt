@@ -12,7 +12,9 @@ use lib.ListN.{length, getD}
 use lib.Dec.{eqb, ltb}
 use borrow.Author.Tests.{eqb-true, eqb-false, ltb-true, eq-eqb, lt-ltb}
 use Rattle.search.specs.First.{FirstAt, first-ended, first-answered}
-use Rattle.line.specs.Text.{entryAt, lineLetter, lineEnd, framed}
+use Rattle.field.specs.Text.{five, blankText}
+use Rattle.line.specs.Text.{entryAt, lineLetter, lineEnd, lineField, framed}
+use Rattle.line.specs.Entries.{blank-is-bad}
 use Rattle.plate.specs.Form.{columnAt, NumberBelow, DashOrBelow, EverOrBelow, HeaderForm, PositionForm, LineForm, OfForm, BadAt, badLength, badLine}
 use Rattle.plate.specs.Formed.{numberIs, numberBelow, dashOrBelow, everOrBelow, headerGood, positionGoodAt, positionGood, badPosition, formOf}
 use Rattle.line.specs.declared.Entry.{Entry}
@@ -188,3 +190,40 @@ bad-line-exact n l text = (bad-form n l text, λ w. go w (formOf n text) refl)
     go : BadAt n text l → (f : Form) → formOf n text ≡ f → f ≡ BadLine l
     go w Good e = absurd (good-not-bad n l text (good-form n text e) w)
     go w (BadLine k) e = ap BadLine (bad-once n k l text (bad-form n k text e) w)
+
+-- Blanks
+
+-- a line of the form has no blank
+blank-malformed : (n i j : ℕ) (text : List ℕ) → j < 4 → columnAt text i j ≡ Bad → LineForm n text i → ⊥
+unfolding LineForm NumberBelow DashOrBelow EverOrBelow
+blank-malformed n zero zero text h e w = let z : Number n ≡ Bad = sym (w .count) ∙ e in let y : _≡_ {A = ℕ} 0 1 = cc in omega arith
+blank-malformed n zero (suc zero) text h e w = subst (NumberBelow 513) e (w .rounds)
+blank-malformed n zero (suc (suc zero)) text h e w = subst (DashOrBelow 512) e (w .highest)
+blank-malformed n zero (suc (suc (suc zero))) text h e w = subst (NumberBelow 513) e (w .evers)
+blank-malformed n zero (suc (suc (suc (suc j)))) text h e w = omega arith
+blank-malformed n (suc v) zero text h e w = let z : Number v ≡ Bad = sym (w .position) ∙ e in let y : _≡_ {A = ℕ} 0 1 = cc in omega arith
+blank-malformed n (suc v) (suc zero) text h e w = subst (EverOrBelow 512) e (w .value)
+blank-malformed n (suc v) (suc (suc zero)) text h e w = subst (DashOrBelow n) e (w .choice)
+blank-malformed n (suc v) (suc (suc (suc zero))) text h e w = subst (DashOrBelow 512) e (w .step)
+blank-malformed n (suc v) (suc (suc (suc (suc j)))) text h e w = omega arith
+
+-- so a plate with a blank in any field of any line is refused with 11, on that line or one before (document 02, order 1: a blank is a
+-- chart's mark and nothing else)
+pub blank-refused : (n i j : ℕ) (text : List ℕ) → i ≤ n → j < 4 → five text (lineField 4 i j) ≡ blankText → (l : ℕ) × (l ≤ i) × BadAt n text l
+unfolding columnAt
+blank-refused n i j text inside h e = go (formOf n text) refl
+  where
+    bad : LineForm n text i → ⊥
+    bad = blank-malformed n i j text h (blank-is-bad text (lineField 4 i j) e)
+
+    first : (l : ℕ) → BadAt n text l → l ≤ i
+    first l (badLength h) = omega arith
+    first l (badLine s k f before) = low (decLt i l)
+      where
+        low : Dec (i < l) → l ≤ i
+        low (yes less) = absurd (bad (before i less))
+        low (no less) = omega arith
+
+    go : (f : Form) → formOf n text ≡ f → (l : ℕ) × (l ≤ i) × BadAt n text l
+    go Good q = absurd (bad (good-form n text q .line i inside))
+    go (BadLine l) q = let w = bad-form n l text q in (l, first l w, w)

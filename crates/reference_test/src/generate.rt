@@ -4,14 +4,23 @@ use crate::sheet::Chart;
 use crate::sheet::DISTURBED;
 use crate::sheet::LANE;
 use crate::sheet::MEANT;
+use crate::sheet::NONE;
+use crate::sheet::RIGHT;
 use crate::sheet::add_move;
+use crate::sheet::cell;
+use crate::sheet::more;
+use crate::sheet::owner;
 use crate::sheet::place;
+use crate::sheet::positions;
 use crate::sheet::put_line;
 
 // Which charts are drawn: the count of positions; how many moves a position has at most, and 1 where it has that many exactly; how
 // many positions of a hundred are the lane's, and how many unsafe; and how far off a target is, 0 for anywhere. Where targets are
 // near, disturbances lead downward and position 0 is unsafe, so that values grow high.
 type Shape = [usize; 6];
+
+// By which marks are left blank: what the draws have come to, apart from those of the charts, and the count of blank marks.
+pub type Blanks = [usize; 2];
 
 // The next pseudo-random number, below k.
 pub fn below(seed: &mut usize, k: usize) -> usize {
@@ -28,6 +37,28 @@ pub fn build(chart: &mut Chart, kind: usize, number: usize, seed: &mut usize) {
         2 => straight(chart, 512, CONTROLLER),
         3 => straight(chart, 512, LANE),
         _ => drawn(chart, kind, seed),
+    }
+}
+
+// Leaves so many of a hundred marks 0 of a chart blank.
+pub fn blank_marks(chart: &mut Chart, share: usize, blanks: &mut Blanks) {
+    let n = positions(chart);
+    let mut v = 0;
+    while v < n {
+        blank_mark(chart, v, share, blanks);
+        v += 1;
+    }
+}
+
+fn blank_mark(chart: &mut Chart, v: usize, share: usize, blanks: &mut Blanks) {
+    let mut seed = blanks[0];
+    let drawn = below(&mut seed, 100);
+    blanks[0] = seed;
+    if cell(chart, RIGHT, v % 512 + 1) == 0 {
+        if drawn < share {
+            put_line(chart, v % 512 + 1, owner(chart, v), v, NONE);
+            blanks[1] = more(blanks[1]);
+        }
     }
 }
 

@@ -1,7 +1,7 @@
 // A chart, and what the definitions give to its positions, as two rows of numbers in columns. Each index is reduced to the size of
 // its column, so that no function above has to show a bound.
 
-// No number: "ever" as a value, `-` as a choice or a step.
+// No number: "ever" as a value, `-` as a choice or a step, a blank as a mark.
 pub const NONE: usize = 65535;
 
 // The chart's lines in their order: the letter and the two fields, each a column of 8,192. A fourth column has, of each position, the

@@ -48,7 +48,7 @@ fn chart_line(page: &mut Page, chart: &Chart, i: usize) {
     let at = i % 5000 * 12;
     page[at] = (cell(chart, LETTER, i) % 256) as u8;
     put_field(page, at + 1, cell(chart, LEFT, i), b"    -");
-    put_field(page, at + 6, cell(chart, RIGHT, i), b"    -");
+    put_field(page, at + 6, cell(chart, RIGHT, i), b"     ");
     page[at + 11] = b'\n';
 }
 

@@ -2,11 +2,12 @@
 use Prim.Native.Nat.{ℕ, _+_, _≤_, _<_}
 use native.Mathlib.Nat.{le-refl}
 use native.Mathlib.Omega.{arith}
+use native.Mathlib.Decide.{decLe}
 use mathlib.Core.Path.{_≡_, refl, sym, _∙_, subst}
 use mathlib.Core.Bool.{Bool, true, false, cond}
 use mathlib.Core.List.{List}
 use lib.ListN.{length, getD, set, length-set, replicate, getD-replicate}
-use lib.Seq.{getD-set-same, getD-set-other}
+use lib.Seq.{getD-set-same, getD-set-other, ext-getD}
 use borrow.Author.Count.{below-more}
 use Rattle.rows.specs.Rows.{RowIs, Filled, Kept, Stays}
 
@@ -30,6 +31,15 @@ filled-same old new count total f g e h w = record {
   rest = λ k l. w .rest k (omega arith);
   same-length = w .same-length;
 }
+
+-- the count, the function and what was there before settle the row
+pub filled-unique : {old new other : List ℕ} {count : ℕ} {f : ℕ → ℕ} → Filled old new count f → Filled old other count f → new ≡ other
+filled-unique {old} {new} {other} {count} {f} w x =
+    ext-getD 0 new other (w .same-length ∙ sym (x .same-length)) (λ k h. go k (decLe (k + 1) count))
+  where
+    go : (k : ℕ) → Dec (k + 1 ≤ count) → getD new k 0 ≡ getD other k 0
+    go k (yes l) = w .row k (omega arith) ∙ sym (x .row k (omega arith))
+    go k (no l) = w .rest k (omega arith) ∙ sym (x .rest k (omega arith))
 
 -- a row that is only looked at, one filled up to some place, and one filled after it was touched
 pub kept-same : (count : ℕ) (row : List ℕ) → Kept count row row

@@ -4,7 +4,7 @@ use Prim.Native.Nat.{ℕ, _+_, _*_, _/_, _%_, _≤_, _<_}
 use native.Mathlib.Omega.{arith}
 use mathlib.Core.Path.{_≡_, sym, ap, _∙_}
 use mathlib.Core.Bool.{Bool, true, false, cond}
-use mathlib.Core.List.{List}
+use mathlib.Core.List.{List, [], _∷_}
 use lib.ListN.{getD}
 use lib.Dec.{ltb}
 use Rattle.field.specs.Text.{fieldOf, five, fieldAt, placeByte, numberText}
@@ -40,14 +40,20 @@ pub record Spelt (x c d e : ℕ) : Type 0 where
   pub tens : d ≡ placeByte x 10
   pub units : e ≡ 48 + x % 10
 
--- two spaces and these bytes read as x
+-- two spaces and these bytes are a field of x
+pub spelt-field : (x : ℕ) → x < 1000 → fieldOf (32 ∷ 32 ∷ placeByte x 100 ∷ placeByte x 10 ∷ (48 + x % 10) ∷ []) ≡ Number x
+unfolding numberText
+spelt-field x small =
+    let bytes : 32 ∷ 32 ∷ placeByte x 100 ∷ placeByte x 10 ∷ (48 + x % 10) ∷ [] ≡ numberText x = cc (place-space x 10000 (omega arith), place-space x 1000 (omega arith)) in
+    ap fieldOf bytes ∙ number-reads x (omega arith)
+
+-- so they read as x
 pub spelt-reads : (text : List ℕ) (at x : ℕ) → x < 1000 → getD text at 0 ≡ 32 → getD text (at + 1) 0 ≡ 32 →
     Spelt x (getD text (at + 2) 0) (getD text (at + 3) 0) (getD text (at + 4) 0) → fieldAt text at ≡ Number x
-unfolding fieldAt five numberText
+unfolding fieldAt five
 spelt-reads text at x small one two w =
-    let bytes : five text at ≡ numberText x =
-    cc (one, two, w .hundreds, w .tens, w .units, place-space x 10000 (omega arith), place-space x 1000 (omega arith)) in
-    ap fieldOf bytes ∙ number-reads x (omega arith)
+    let bytes : five text at ≡ 32 ∷ 32 ∷ placeByte x 100 ∷ placeByte x 10 ∷ (48 + x % 10) ∷ [] = cc (one, two, w .hundreds, w .tens, w .units) in
+    ap fieldOf bytes ∙ spelt-field x small
 
 -- a space, and then a space and the word of x: an entry read by one word
 pub entry-reads : (text : List ℕ) (at word x : ℕ) → x < 1000 → getD text at 0 ≡ 32 → WordIs text (at + 1) word → word ≡ 32 + spelt x * 256 → fieldAt text at ≡ Number x

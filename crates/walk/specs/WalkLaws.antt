@@ -7,29 +7,30 @@ use native.Mathlib.Numerals.{add-one}
 use mathlib.Core.Path.{_≡_, refl, sym, ap, subst, _∙_}
 use mathlib.Core.Logic.{_⊎_, inl, inr, ⊎-elim}
 use mathlib.Core.Bool.{Bool, true, false, cond, not}
-use mathlib.Core.List.{List}
+use mathlib.Core.List.{List, [], _∷_}
 use lib.ListN.{length, getD}
-use lib.Dec.{ltb}
+use lib.Dec.{ltb, eqb}
 use borrow.Author.Count.{below-more}
-use borrow.Author.Tests.{ltb-true, ltb-false, eq-eqb, lt-ltb}
-use Rattle.field.specs.Text.{placeByte}
+use borrow.Author.Tests.{ltb-true, ltb-false, eqb-true, eq-eqb, lt-ltb}
+use Rattle.field.specs.Text.{fieldOf, five, fieldAt, placeByte, blankText}
+use Rattle.field.specs.Laws.{blank-reads}
 use Rattle.field.specs.declared.Field.{Field}
-use Rattle.field.specs.declared.Field.the-variants.{Number}
+use Rattle.field.specs.declared.Field.the-variants.{Number, Blank}
 use Rattle.game.specs.Arena.{Owner, controller, environment}
 use Rattle.rows.specs.Rows.{ownerNumber}
 use Rattle.rows.specs.declared.Chart.{Chart}
 use Rattle.spelling.specs.Words.{spelt}
-use Rattle.spelling.specs.WordLaws.{word-bytes, place-small, spelt-reads}
-use Rattle.chart.specs.Text.{letterAt, firstAt, secondAt, endAt, markAt, fieldNumber, positionsOf, movesOf, fromAt, toAt}
+use Rattle.spelling.specs.WordLaws.{word-bytes, place-small, spelt-field, spelt-reads}
+use Rattle.chart.specs.Text.{letterAt, firstAt, secondAt, endAt, markOf, markAt, fieldNumber, positionsOf, movesOf, fromAt, toAt}
 use Rattle.chart.specs.Meaning.{ownerOf, costOf}
 use Rattle.chart.specs.Examined.{above, rises, meantLine, meantIn, headerFormed, headerOf}
 use Rattle.chart.specs.Header.{WithinLimits, header-accepts}
 use Rattle.chart.specs.Accepted.{cost-small}
-use Rattle.chart.specs.Good.{Formed, GoodPosition, GoodMove, header-form}
+use Rattle.chart.specs.Good.{GoodPosition, GoodMove, header-form}
 use Rattle.chart.specs.Taken.{good-accepted}
-use Rattle.chart.specs.Lines.{Reads}
+use Rattle.chart.specs.Lines.{Reads, number-again, reads-formed}
 use Rattle.chart.specs.declared.Examination.the-variants.{Accepted}
-use Rattle.walk.specs.Walked.{LineWords, Tables, MoveStands, PositionsPassed, MovesPassed, Passed}
+use Rattle.walk.specs.Walked.{markWord, LineWords, Tables, MoveStands, PositionsPassed, MovesPassed, Passed}
 
 -- a walk that stopped has not passed
 pub stopped : {A : Type 0} → false ≡ true → A
@@ -52,61 +53,65 @@ spelt-small x =
 byte : (text : List ℕ) (p q z : ℕ) → p ≡ q → getD text q 0 ≡ z → getD text p 0 ≡ z
 byte text p q z e h = ap (λ (k : ℕ). getD text k 0) e ∙ h
 
--- a line with the words of two numbers reads as them
-pub words-read : (text : List ℕ) (i letter x y : ℕ) → letter < 256 → x < 1000 → y < 1000 → LineWords text (i * 12) letter (spelt x) (spelt y) → Reads text i letter x y
-unfolding spelt letterAt firstAt secondAt endAt
-words-read text i letter x y l h k w =
-    let c = place-small x 100 in
-    let d = place-small x 10 in
-    let f = place-small y 100 in
-    let g = place-small y 10 in
+-- a line with the word of a number and the last three bytes of a field reads as them
+words-are : (text : List ℕ) (i letter x c d e : ℕ) (f : Field) → letter < 256 → x < 1000 → (c < 256) × (d < 256) × (e < 256) → fieldOf (32 ∷ 32 ∷ c ∷ d ∷ e ∷ []) ≡ f →
+    LineWords text (i * 12) letter (spelt x) (c + d * 256 + e * 65536) → Reads text i letter x f
+unfolding spelt letterAt firstAt secondAt endAt fieldAt five
+words-are text i letter x c d e f l h small is w =
+    let high = place-small x 100 in
+    let low = place-small x 10 in
     let one = word-bytes text (i * 12) _ letter 32 32 (placeByte x 100) (w .opening) (l, omega arith, omega arith, omega arith) (omega arith) in
     let two = word-bytes text (i * 12 + 4) _ (placeByte x 10) (48 + x % 10) 32 32 (w .middle) (omega arith, omega arith, omega arith, omega arith) (omega arith) in
-    let three = word-bytes text (i * 12 + 8) _ (placeByte y 100) (placeByte y 10) (48 + y % 10) 10 (w .closing) (omega arith, omega arith, omega arith, omega arith) (omega arith) in
+    let three = word-bytes text (i * 12 + 8) _ c d e 10 (w .closing) (small .0, small .1, small .2, omega arith) (omega arith) in
+    let second : five text (i * 12 + 6) ≡ 32 ∷ 32 ∷ c ∷ d ∷ e ∷ [] =
+    cc (
+      byte text (i * 12 + 6) _ _ (omega arith) (two .2),
+      byte text (i * 12 + 6 + 1) _ _ (omega arith) (two .3),
+      byte text (i * 12 + 6 + 2) _ _ (omega arith) (three .0),
+      byte text (i * 12 + 6 + 3) _ _ (omega arith) (three .1),
+      byte text (i * 12 + 6 + 4) _ _ (omega arith) (three .2),
+    ) in
     record {
       letter-is = one .0;
       first-is = spelt-reads text (i * 12 + 1) x h (one .1) (byte text _ _ _ (omega arith) (one .2))
           (record { hundreds = byte text _ _ _ (omega arith) (one .3); tens = byte text _ _ _ (omega arith) (two .0); units = byte text _ _ _ (omega arith) (two .1) });
-      second-is = spelt-reads text (i * 12 + 6) y k (byte text _ _ _ (omega arith) (two .2)) (byte text _ _ _ (omega arith) (two .3))
-          (record { hundreds = byte text _ _ _ (omega arith) (three .0); tens = byte text _ _ _ (omega arith) (three .1); units = byte text _ _ _ (omega arith) (three .2) });
+      second-is = ap fieldOf second ∙ is;
       end-is = byte text _ _ _ (omega arith) (three .3);
     }
 
--- a field that reads as a number
-numbered : (f : Field) (x : ℕ) → f ≡ Number x → (f ≡ Number (fieldNumber f)) × (fieldNumber f ≡ x)
-unfolding fieldNumber
-numbered f x e = (e ∙ ap (λ (g : Field). Number (fieldNumber g)) (sym e), ap fieldNumber e)
+-- so one with the words of two numbers
+pub words-read : (text : List ℕ) (i letter x y : ℕ) → letter < 256 → x < 1000 → y < 1000 → LineWords text (i * 12) letter (spelt x) (spelt y) → Reads text i letter x (Number y)
+unfolding spelt
+words-read text i letter x y l h k w =
+    let c = place-small y 100 in
+    let d = place-small y 10 in
+    words-are text i letter x (placeByte y 100) (placeByte y 10) (48 + y % 10) (Number y) l h (omega arith, omega arith, omega arith) (spelt-field y k) w
 
--- the form of a line that reads so
-reads-formed : (text : List ℕ) (i letter x y a b : ℕ) → Reads text i letter x y → (letter ≡ a) ⊎ (letter ≡ b) → Formed (letterAt text i) (firstAt text i) (secondAt text i) (endAt text i) a b
-reads-formed text i letter x y a b r w =
-    record {
-      allowed = ⊎-elim (λ p. inl (r .letter-is ∙ p)) (λ p. inr (r .letter-is ∙ p)) w;
-      first-number = numbered (firstAt text i) x (r .first-is) .0;
-      second-number = numbered (secondAt text i) y (r .second-is) .0;
-      ends = r .end-is;
-    }
-
-pub reads-from : (text : List ℕ) (i letter x y : ℕ) → Reads text i letter x y → fromAt text i ≡ x
+pub reads-from : (text : List ℕ) (i letter x : ℕ) (f : Field) → Reads text i letter x f → fromAt text i ≡ x
 unfolding fromAt
-reads-from text i letter x y r = numbered (firstAt text i) x (r .first-is) .1
+reads-from text i letter x f r = number-again (firstAt text i) x (r .first-is) .1
 
-pub reads-to : (text : List ℕ) (i letter x y : ℕ) → Reads text i letter x y → toAt text i ≡ y
+pub reads-to : (text : List ℕ) (i letter x y : ℕ) → Reads text i letter x (Number y) → toAt text i ≡ y
 unfolding toAt
-reads-to text i letter x y r = numbered (secondAt text i) y (r .second-is) .1
+reads-to text i letter x y r = number-again (secondAt text i) y (r .second-is) .1
 
-pub reads-mark : (text : List ℕ) (i letter x y : ℕ) → Reads text i letter x y → fieldNumber (markAt text i) ≡ y
-unfolding markAt
-reads-mark text i letter x y r = numbered (secondAt text i) y (r .second-is) .1
+-- a position's line: its mark is what its second field stands for
+pub record PositionStands (text : List ℕ) (v mark : ℕ) : Type 0 where
+  pub good : GoodPosition text (v + 1)
+  pub mark-is : fieldNumber (markAt text (v + 1)) ≡ mark
 
--- a position's line
-pub position-good : (text : List ℕ) (v letter mark : ℕ) → (letter ≡ 79) ⊎ (letter ≡ 76) → mark ≤ 1 → Reads text (v + 1) letter v mark → GoodPosition text (v + 1)
+position-reads : (text : List ℕ) (v letter mark : ℕ) (f : Field) → (letter ≡ 79) ⊎ (letter ≡ 76) → mark ≤ 1 → Reads text (v + 1) letter v f → markOf f ≡ Number mark → PositionStands text v mark
 unfolding markAt
-position-good text v letter mark w small r =
+position-reads text v letter mark f w small r is =
+    let stands : markAt text (v + 1) ≡ Number mark = ap markOf (r .second-is) ∙ is in
+    let number = number-again (markAt text (v + 1)) mark stands .1 in
     record {
-      form = reads-formed text (v + 1) letter v mark 79 76 r w;
-      in-order = reads-from text (v + 1) letter v mark r ∙ omega arith;
-      small = subst (λ (k : ℕ). k ≤ 1) (sym (reads-mark text (v + 1) letter v mark r)) small;
+      good = record {
+        form = reads-formed text (v + 1) letter v f (markAt text (v + 1)) mark 79 76 r stands w;
+        in-order = reads-from text (v + 1) letter v f r ∙ omega arith;
+        small = subst (λ (k : ℕ). k ≤ 1) (sym number) small;
+      };
+      mark-is = number;
     }
 
 owner-small : (o : Owner) → ownerNumber o ≤ 1
@@ -114,8 +119,13 @@ owner-small controller = omega arith
 owner-small environment = omega arith
 
 -- what bounds the numbers that the tests compare
-pub spelt-fits : (word x : ℕ) → word ≡ spelt x → word < 16777216
-spelt-fits word x e = rw e (spelt-small x)
+pub mark-word-fits : (word last : ℕ) → word ≡ markWord last → word < 16777216
+unfolding markWord
+mark-word-fits word last e = rw e (go (eqb last 32))
+  where
+    go : (b : Bool) → cond b 2105376 (spelt (last % 2)) < 16777216
+    go true = omega arith
+    go false = spelt-small (last % 2)
 
 pub owner-fits : (owner letter : ℕ) → owner ≡ ownerNumber (ownerOf letter) → owner ≤ 1
 owner-fits owner letter e = rw e (owner-small (ownerOf letter))
@@ -155,20 +165,28 @@ module _ (text : List ℕ) (n : ℕ) (words owners : List ℕ) (tables : Tables 
       go (no l) = inr (omega (arith, cost-fits cost (letterAt text line) is))
 
 -- a line with the words of position v and of a mark is that position's
-pub record PositionStands (text : List ℕ) (v mark : ℕ) : Type 0 where
-  pub good : GoodPosition text (v + 1)
-  pub mark-is : fieldNumber (markAt text (v + 1)) ≡ mark
-
-pub position-stands : (text : List ℕ) (v owner mark : ℕ) → v < 1000 → owner ≡ ownerNumber (ownerOf (letterAt text (v + 1))) → mark ≤ 1 →
-    LineWords text ((v + 1) * 12) (79 - 3 * owner) (spelt v) (spelt mark) → PositionStands text v mark
-position-stands text v owner mark h is small w =
-    let one = owner-fits owner (letterAt text (v + 1)) is in
-    let r = words-read text (v + 1) (79 - 3 * owner) v mark (omega arith) h (omega arith) w in
-    record { good = position-good text v (79 - 3 * owner) mark (go (decLe owner 0)) small r; mark-is = reads-mark text (v + 1) (79 - 3 * owner) v mark r }
+pub position-stands : (text : List ℕ) (v owner last : ℕ) → v < 1000 → owner ≡ ownerNumber (ownerOf (letterAt text (v + 1))) →
+    LineWords text ((v + 1) * 12) (79 - 3 * owner) (spelt v) (markWord last) → PositionStands text v (last % 2)
+unfolding markWord markOf blankText
+position-stands text v owner last h is w = go (eqb last 32) refl
   where
-    go : Dec (owner ≤ 0) → (79 - 3 * owner ≡ 79) ⊎ (79 - 3 * owner ≡ 76)
-    go (yes l) = inl (omega arith)
-    go (no l) = inr (omega (arith, owner-fits owner (letterAt text (v + 1)) is))
+    one : owner ≤ 1
+    one = owner-fits owner (letterAt text (v + 1)) is
+
+    letters : Dec (owner ≤ 0) → (79 - 3 * owner ≡ 79) ⊎ (79 - 3 * owner ≡ 76)
+    letters (yes l) = inl (omega arith)
+    letters (no l) = inr (omega (arith, one))
+
+    go : (b : Bool) → eqb last 32 ≡ b → PositionStands text v (last % 2)
+    go true e =
+        let space : last ≡ 32 = eqb-true last 32 e in
+        let words : LineWords text ((v + 1) * 12) (79 - 3 * owner) (spelt v) (32 + 32 * 256 + 32 * 65536) = simp e at w in
+        subst (PositionStands text v) (ap (λ (b : ℕ). b % 2) (sym space))
+        (position-reads text v (79 - 3 * owner) 0 Blank (letters (decLe owner 0)) (omega arith)
+        (words-are text (v + 1) (79 - 3 * owner) v 32 32 32 Blank (omega arith) h (omega arith, omega arith, omega arith) blank-reads words) refl)
+    go false e =
+        position-reads text v (79 - 3 * owner) (last % 2) (Number (last % 2)) (letters (decLe owner 0)) (omega arith)
+        (words-read text (v + 1) (79 - 3 * owner) v (last % 2) (omega arith) h (omega arith) (simp e at w)) refl
 
 -- the rank of a move: from above its cost above to
 unfoldable pub rankOf : ℕ → ℕ → ℕ → ℕ
@@ -206,7 +224,7 @@ so-far-none text n = record { good = λ j h. absurd (omega arith); before = λ h
 module _ (text : List ℕ) (n i lowest limit from cost to : ℕ) (few : n ≤ 512) (so-far : SoFar text n i lowest limit) (stands : MoveStands text n (n + 1 + i) from to)
     (is : cost ≡ costOf (letterAt text (n + 1 + i))) (low : lowest ≤ rankOf from cost to) (high : rankOf from cost to < limit) where
   from-is : fromAt text (n + 1 + i) ≡ from
-  from-is = reads-from text (n + 1 + i) (stands .letter) from to (stands .reads)
+  from-is = reads-from text (n + 1 + i) (stands .letter) from (Number to) (stands .reads)
 
   to-is : toAt text (n + 1 + i) ≡ to
   to-is = reads-to text (n + 1 + i) (stands .letter) from to (stands .reads)
@@ -219,7 +237,7 @@ module _ (text : List ℕ) (n i lowest limit from cost to : ℕ) (few : n ≤ 51
   unfolding rises rankAt
   line-good =
       record {
-        form = reads-formed text (n + 1 + i) (stands .letter) from to 77 68 (stands .reads) (stands .allowed);
+        form = reads-formed text (n + 1 + i) (stands .letter) from (Number to) (secondAt text (n + 1 + i)) to 77 68 (stands .reads) (stands .reads .second-is) (stands .allowed);
         from-position = rw from-is (stands .from-position);
         to-position = rw to-is (stands .to-position);
         owner = λ p q. stands .undisturbed (sym (stands .reads .letter-is) ∙ p) (ap (λ (v : ℕ). letterAt text (v + 1)) (sym from-is) ∙ q);

@@ -2,10 +2,12 @@
 -- or stops, what lies past the counts in the rows stays.
 use Prim.Native.Nat.{ℕ, _+_, _*_, _/_, _%_, _≤_, _<_}
 use mathlib.Core.Path.{_≡_}
-use mathlib.Core.Bool.{Bool, true}
+use mathlib.Core.Bool.{Bool, true, cond}
 use mathlib.Core.Logic.{_⊎_}
 use mathlib.Core.List.{List}
 use lib.ListN.{length}
+use lib.Dec.{eqb}
+use Rattle.field.specs.declared.Field.the-variants.{Number}
 use Rattle.rows.specs.Rows.{RowIs, Kept, ownerNumber}
 use Rattle.chart.specs.Text.{letterAt}
 use Rattle.chart.specs.Meaning.{ownerOf}
@@ -24,6 +26,10 @@ pub record LineWords (text : List ℕ) (at letter first second : ℕ) : Type 0 w
   pub middle : WordIs text (at + 4) (first / 256 + 538968064)
   pub closing : WordIs text (at + 8) (second + 167772160)
 
+-- the last three bytes of a mark as a word, by the last of them: where that is a space, three spaces
+unfoldable pub markWord : ℕ → ℕ
+markWord last = cond (eqb last 32) 2105376 (spelt (last % 2))
+
 -- the spellings and the owners of n positions
 pub record Tables (text : List ℕ) (n : ℕ) (words owners : List ℕ) : Type 0 where
   pub few : n ≤ 512
@@ -37,7 +43,7 @@ pub record MoveStands (text : List ℕ) (n line from to : ℕ) : Type 0 where
   pub from-position : from < n
   pub to-position : to < n
   pub letter : ℕ
-  pub reads : Reads text line letter from to
+  pub reads : Reads text line letter from (Number to)
   pub allowed : (letter ≡ 77) ⊎ (letter ≡ 68)
   pub undisturbed : letter ≡ 68 → letterAt text (from + 1) ≡ 76 → ⊥
 

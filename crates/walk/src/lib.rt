@@ -8,7 +8,7 @@ ghost use Rattle.rows.specs.Rows.{RowIs, ownerNumber};
 ghost use Rattle.chart.specs.Meaning.{ownerOf};
 ghost use Rattle.chart.specs.Examined.{headerOf};
 ghost use Rattle.spelling.specs.Words.{spelt};
-ghost use Rattle.walk.specs.Walked.{LineWords, Tables, MoveStands, PositionsWalked, MovesWalked, WalkIs};
+ghost use Rattle.walk.specs.Walked.{markWord, LineWords, Tables, MoveStands, PositionsWalked, MovesWalked, WalkIs};
 use chart::Examination;
 use chart::cost;
 use rows::Chart;
@@ -42,7 +42,7 @@ pub fn walk(
     walk_moves(text, n, m, &words, owners, costs, froms, tos)
 }
 
-// The position lines: the letter O (79) or L (76), the number in order, the mark 0 or 1.
+// The position lines: the letter O (79) or L (76), the number in order, the mark 0, 1 or blank. A space's last bit is 0, as a blank mark is.
 fn walk_positions(text: &[u8], n: usize, words: &[u32], owners: &mut [u8], marks: &mut [u8]) -> bool
     requires { ⌜ (n ≤ 512) × ((n + 1) * 12 ≤ length (now text)) ⌝ }
     requires { ⌜ RowIs (now words) n spelt × (n ≤ length (now words)) ⌝ }
@@ -53,21 +53,25 @@ fn walk_positions(text: &[u8], n: usize, words: &[u32], owners: &mut [u8], marks
     while v < n {
         let at = (v + 1) * Chart::LINE;
         let owner = owner(text[at]);
-        let mark = text[at + 10] % 2;
-        if !line_is(
-            text,
-            at,
-            79 - 3 * owner as u32,
-            words[v],
-            spell(mark as usize),
-        ) {
+        let last = text[at + 10];
+        if !line_is(text, at, 79 - 3 * owner as u32, words[v], mark_word(last)) {
             return false;
         }
         owners[v] = owner;
-        marks[v] = mark;
+        marks[v] = last % 2;
         v += 1;
     }
     true
+}
+
+// The last three bytes of a mark as a word, by the last of them: spaces, or the spelling of 0 or 1.
+fn mark_word(last: u8) -> u32
+    ensures { λ r. ⌜ r ≡ markWord last ⌝ }
+{
+    if last == b' ' {
+        return 0x0020_2020;
+    }
+    spell((last % 2) as usize)
 }
 
 // The move lines. Moves rise where their ranks do, which have from above cost above to. A rank stays below `limit`, where the disturbances

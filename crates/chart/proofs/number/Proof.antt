@@ -14,6 +14,9 @@ cast-result c = search needs
 enum-told : tie.Need-enum-told
 enum-told c = search needs
 
+enum-told-2 : tie.Need-enum-told-2
+enum-told-2 c = search needs
+
 returns : tie.Need-returns
 unfolding fieldNumber
 returns c = search cases
@@ -22,5 +25,10 @@ returns-2 : tie.Need-returns-2
 unfolding fieldNumber
 returns-2 c = search cases
 
+returns-3 : tie.Need-returns-3
+unfolding fieldNumber
+returns-3 c = search cases
+
 pub number-spec : {M : Type 1} → statement M
-number-spec = tie.close (tie.spec enum-known-f cast-result enum-told returns returns-2)
+number-spec =
+    tie.close (tie.spec enum-known-f cast-result enum-told enum-told-2 returns returns-2 returns-3)

@@ -18,9 +18,15 @@ enum-told-3 c = search needs
 enum-told-4 : tie.Need-enum-told-4
 enum-told-4 c = search needs
 
+enum-told-5 : tie.Need-enum-told-5
+enum-told-5 c = search needs
+
+enum-told-6 : tie.Need-enum-told-6
+enum-told-6 c = search needs
+
 returns : tie.Need-returns
 unfolding numbered isNumber
-returns c = search cases
+returns c = simp (c .before .before .enum-told .given .1, c .enum-told2 .given .1)
 
 returns-2 : tie.Need-returns-2
 unfolding numbered isNumber
@@ -28,8 +34,28 @@ returns-2 c = search cases
 
 returns-3 : tie.Need-returns-3
 unfolding numbered isNumber
-returns-3 c = simp (c .before .before .enum-told2 .given .1, c .enum-told4 .given .1)
+returns-3 c = search cases
+
+returns-4 : tie.Need-returns-4
+unfolding numbered isNumber
+returns-4 c = search cases
+
+returns-5 : tie.Need-returns-5
+unfolding numbered isNumber
+returns-5 c = search cases
 
 pub numbered-spec : {M : Type 1} → statement M
 numbered-spec =
-    tie.close (tie.spec enum-told enum-told-2 enum-told-3 enum-told-4 returns returns-2 returns-3)
+    tie.close
+    (tie.spec
+    enum-told
+    enum-told-2
+    enum-told-3
+    enum-told-4
+    enum-told-5
+    enum-told-6
+    returns
+    returns-2
+    returns-3
+    returns-4
+    returns-5)

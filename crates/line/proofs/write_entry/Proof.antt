@@ -1,6 +1,6 @@
 -- `line::write_entry` meets its contract, by the cases of the entry.
 use Rattle.line.specs.Text.{withEntry, entryText, dashText, everText}
-use Rattle.field.specs.Text.{withNumber}
+use Rattle.field.specs.Text.{blankText, withNumber}
 use borrow.Author.Needs.{needs}
 use Rattle.line.proofs.write_entry.Statement.{statement}
 use Rattle.line.proofs.write_entry.Tie as tie
@@ -54,7 +54,7 @@ same-length-4 : tie.Need-same-length-4
 same-length-4 c = search needs
 
 returns-4 : tie.Need-returns-4
-unfolding withEntry entryText
+unfolding withEntry entryText blankText
 returns-4 c = simp (c .before .before .before .before .enum-told3 .given .1) (c .before .before .write-word3 .ensures)
 
 pub write-entry-spec : {M : Type 1} → statement M

@@ -8,7 +8,7 @@ use Rattle.rows.specs.Filling.{filled-none, filled-more, filled-kept}
 use Rattle.chart.specs.Text.{letterAt}
 use Rattle.chart.specs.Good.{GoodPosition}
 use Rattle.walk.specs.Walked.{PositionsPassed}
-use Rattle.walk.specs.WalkLaws.{stopped, went-on, owner-fits, spelt-fits, position-stands}
+use Rattle.walk.specs.WalkLaws.{stopped, went-on, owner-fits, mark-word-fits, position-stands}
 use Rattle.walk.proofs.walk_positions.Statement.{statement}
 use Rattle.walk.proofs.walk_positions.Tie as tie
 
@@ -33,11 +33,11 @@ shared-slice-read-owner c = omega arith
 owner-requires : tie.Need-owner-requires Inv-loop μ-loop
 owner-requires c κs = tt
 
-add-mark : tie.Need-add-mark Inv-loop μ-loop
-add-mark c = omega arith
+add-last : tie.Need-add-last Inv-loop μ-loop
+add-last c = omega arith
 
-shared-slice-read-mark : tie.Need-shared-slice-read-mark Inv-loop μ-loop
-shared-slice-read-mark c = omega arith
+shared-slice-read-last : tie.Need-shared-slice-read-last Inv-loop μ-loop
+shared-slice-read-last c = omega arith
 
 cast-line-is : tie.Need-cast-line-is Inv-loop μ-loop
 cast-line-is c = omega arith
@@ -54,14 +54,11 @@ mul-line-is-2 c = omega arith
 shared-slice-read-line-is : tie.Need-shared-slice-read-line-is Inv-loop μ-loop
 shared-slice-read-line-is c = omega arith
 
-cast-spell : tie.Need-cast-spell Inv-loop μ-loop
-cast-spell c = omega arith
-
-spell-requires : tie.Need-spell-requires Inv-loop μ-loop
-spell-requires c κs = omega arith
+mark-word-requires : tie.Need-mark-word-requires Inv-loop μ-loop
+mark-word-requires c κs = tt
 
 line-is-requires : tie.Need-line-is-requires Inv-loop μ-loop
-line-is-requires c κs = (omega arith, (omega arith, spelt-fits _ _ (c .spell .ensures)))
+line-is-requires c κs = (omega arith, (omega arith, mark-word-fits _ _ (c .mark-word .ensures)))
 
 same-length : tie.Need-same-length Inv-loop μ-loop
 same-length c = c .before .before .before .before .before .before .before .before .loop .inv .1 .rows .owner .same-length
@@ -94,8 +91,8 @@ loop-again c =
     let inv = head .loop .inv in
     let v = head .loop .v in
     let owner = c .before .before .before .before .before .owner .ensures in
-    let words = rw (start .pre .1 .0 .0 v (omega arith), c .before .before .spell .ensures) at (c .before .line-is .ensures (went-on _ (c .if1 .left))) in
-    let stands = position-stands (now (start .args .text)) v _ _ (omega arith) owner (omega arith) words in (
+    let words = rw (start .pre .1 .0 .0 v (omega arith), c .before .before .mark-word .ensures) at (c .before .line-is .ensures (went-on _ (c .if1 .left))) in
+    let stands = position-stands (now (start .args .text)) v _ _ (omega arith) owner words in (
       omega arith,
       record {
         good = below-more (λ (k : ℕ). GoodPosition (now (start .args .text)) (k + 1)) v (inv .1 .good) (stands .good);
@@ -134,15 +131,14 @@ walk-positions-spec =
     mul-at
     shared-slice-read-owner
     owner-requires
-    add-mark
-    shared-slice-read-mark
+    add-last
+    shared-slice-read-last
     cast-line-is
     mul-line-is
     sub-line-is
     mul-line-is-2
     shared-slice-read-line-is
-    cast-spell
-    spell-requires
+    mark-word-requires
     line-is-requires
     same-length
     same-length-2

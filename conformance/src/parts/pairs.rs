@@ -1,0 +1,106 @@
+//! Part 5: charts with blank marks, each beside the same chart with 0 in their place. On both every job gives the same
+//! answer and leaves the same in all that was lent, be the inputs good or damaged. The library is set against itself here:
+//! what the model says of either chart has no part in it.
+
+use super::setting::{Besides, Setting, KINDS};
+use super::Share;
+use crate::blanks::{filled_in, leave_out};
+use crate::capi::{self, Compared, Reading, Refusal, Step, Valued, Written};
+use crate::chart::{small_chart, small_charts};
+use crate::model::Subject;
+use crate::random::Random;
+use crate::tally::{Tally, JOBS};
+use crate::trial::{Lent, Trial};
+
+const PAIRS: usize = 40_000;
+
+pub fn part(share: Share) -> Tally {
+    let mut trial = Trial::default();
+    for n in 1..=2 {
+        for number in (share.first..small_charts(n)).step_by(share.shares) {
+            small(&mut trial, n, number);
+        }
+    }
+    for input in share.of(PAIRS) {
+        let mut random = Random::new(0x6000_0000 + input as u64);
+        drawn(&mut trial, &mut random);
+    }
+    trial.tally
+}
+
+/// A chart of one or two positions with every set of blanks.
+fn small(trial: &mut Trial, n: usize, number: usize) {
+    for set in 1..1 << n {
+        let mut random = Random::new(number as u64);
+        let mut setting = Setting::of(&mut random, small_chart(n, number));
+        leave_out(&mut setting.chart, |v| set >> v & 1 == 1);
+        pair(trial, &mut random, &setting);
+    }
+}
+
+/// A drawn chart with all of its safe marks blank or half of them, and damage to anything in half of the inputs.
+fn drawn(trial: &mut Trial, random: &mut Random) {
+    let mut setting = Setting::good(random);
+    let percent = *random.pick(&[50, 100]);
+    leave_out(&mut setting.chart, |_| random.chance(percent));
+    for _ in 0..*random.pick(&[0, 0, 1, 2]) {
+        let (kind, _) = *random.pick(&KINDS);
+        setting.damage(random, kind);
+    }
+    pair(trial, random, &setting);
+}
+
+fn pair(trial: &mut Trial, random: &mut Random, setting: &Setting) {
+    let (blank, filled) = (&setting.chart, filled_in(&setting.chart));
+    if *blank == filled {
+        return;
+    }
+    let besides = setting.besides(random);
+    let (one, other) = (outcome(blank, setting, &besides), outcome(&filled, setting, &besides));
+    assert!(one == other, "blank marks and 0: {}\n{one:?}\n{other:?}", blank.escape_ascii());
+    trial.input(&Subject::new(blank));
+    trial.tally.calls += 2 * JOBS.len() as u64;
+    match one.checked.number {
+        1..=9 => trial.tally.pairs_refused += 1,
+        _ => trial.tally.pairs_taken += 1,
+    }
+}
+
+/// What each job answers, and all that was lent to it afterwards.
+#[derive(Debug, PartialEq)]
+struct Outcome {
+    valued: Valued,
+    written: Written,
+    reading: Reading,
+    checked: Refusal,
+    weighed: Refusal,
+    compared: Compared,
+    started: Step,
+    reported: Step,
+    valued_rows: [Lent<u16>; 3],
+    plate: Lent<u8>,
+    read_rows: [Lent<u16>; 3],
+    worths: Lent<u16>,
+}
+
+fn outcome(chart: &[u8], setting: &Setting, besides: &Besides) -> Outcome {
+    let (plate, choices) = (&setting.plate, &setting.choices);
+    let (mut valued_rows, mut read_rows) = (besides.rows.map(Lent::new), besides.rows.map(Lent::new));
+    let (mut written, mut worths) = (Lent::new(besides.buffer), Lent::new(besides.rows[0]));
+    let [values, others, steps] = &mut valued_rows;
+    let [read_values, read_choices, read_steps] = &mut read_rows;
+    Outcome {
+        valued: capi::value(chart, values.lend(), others.lend(), steps.lend()),
+        written: capi::write(chart, written.lend()),
+        reading: capi::read(chart, plate, read_values.lend(), read_choices.lend(), read_steps.lend()),
+        checked: capi::check(chart, plate),
+        weighed: capi::weigh(chart, choices, worths.lend()),
+        compared: capi::compare(chart, plate, choices),
+        started: capi::start(chart, plate, besides.start),
+        reported: capi::report(besides.run, chart, plate, besides.to),
+        valued_rows,
+        plate: written,
+        read_rows,
+        worths,
+    }
+}

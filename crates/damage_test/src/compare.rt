@@ -1,0 +1,166 @@
+// Compares the library's answer to a text with the table's, and with its answer to the same text with 0 in the place of blank marks; and
+// counts.
+use crate::damage::damage;
+use crate::draw::NONE;
+use crate::draw::Page;
+use crate::draw::draw;
+use crate::draw::put_field;
+use crate::table::Answer;
+use crate::table::accepted;
+use crate::table::judge;
+use crate::table::number;
+use crate::table::refused;
+use crate::table::spells;
+use chart::Examination;
+use chart::examine;
+use refusal::Refusal;
+use writing::Written;
+use writing::write_plate;
+
+// Answers by their number, 0 for accepted ones, and what follows.
+pub type Tally = [usize; 13];
+
+const BLANK: usize = 10;
+
+const BLANK_ACCEPTED: usize = 11;
+
+const MISMATCHES: usize = 12;
+
+// Room for a small chart's plate.
+type Plate = [u8; 512];
+
+fn add(tally: &mut Tally, k: usize) {
+    tally[k % 13] = tally[k % 13] % 1000000000 + 1;
+}
+
+// Draws a chart, damages it by a kind, and compares.
+pub fn compare_drawn(kind: usize, seed: &mut usize, tally: &mut Tally) {
+    let mut page = [b'#'; 4096];
+    let lines = draw(&mut page, seed) % 341;
+    let size = if kind == 0 {
+        lines * 12
+    } else {
+        damage(&mut page, lines * 12, kind, seed)
+    };
+    let mut filled = page;
+    let blanks = fill(&mut filled, size);
+    compare_text(part(&page, size), part(&filled, size), blanks, tally);
+}
+
+// The first bytes of a page.
+fn part(page: &Page, size: usize) -> &[u8] {
+    front(page, size)
+}
+
+fn front(text: &[u8], size: usize) -> &[u8] {
+    if size <= text.len() {
+        &text[0..size]
+    } else {
+        text
+    }
+}
+
+// Writes 0 for blank marks, and answers how many there were.
+fn fill(page: &mut Page, size: usize) -> usize {
+    let lines = marked(page, size);
+    let mut count: usize = 0;
+    let mut v = 0;
+    while v < lines {
+        if is_blank(page, v + 1) {
+            put_field(page, v % 340 * 12 + 18, 0);
+            count = count % 1024 + 1;
+        }
+        v += 1;
+    }
+    count
+}
+
+// How many lines have a mark: as many as the header says, 0 where the text has not so many.
+fn marked(page: &Page, size: usize) -> usize {
+    let n = number(page, 0, 1);
+    if n < size / 12 { n } else { 0 }
+}
+
+fn is_blank(page: &Page, i: usize) -> bool {
+    spells(page, i, 6, NONE)
+}
+
+// All comparisons of a text. In the filled one every blank mark is 0.
+pub fn compare_text(text: &[u8], filled: &[u8], blanks: usize, tally: &mut Tally) {
+    let mut plate = [b'#'; 512];
+    let mut other = [b'#'; 512];
+    let expected = judge(text);
+    count(expected.number, blanks, tally);
+    expect(examined(examine(text)), expected, true, text, tally);
+    let answer = written(write_plate(text, &mut plate));
+    expect(answer, expected, true, text, tally);
+    let answer = written(write_plate(filled, &mut other));
+    expect(answer, expected, same_plates(&plate, &other), text, tally);
+}
+
+fn count(number: usize, blanks: usize, tally: &mut Tally) {
+    add(tally, number);
+    if 0 < blanks {
+        add(tally, BLANK);
+        if number == 0 {
+            add(tally, BLANK_ACCEPTED);
+        }
+    }
+}
+
+fn examined(answer: Examination) -> Answer {
+    match answer {
+        Examination::Accepted(c) => accepted(c.positions),
+        Examination::Refused(m) => numbered(Refusal::Chart(m)),
+    }
+}
+
+fn written(answer: Written) -> Answer {
+    match answer {
+        Written::Length(length) => Answer {
+            number: 0,
+            line: 0,
+            length,
+        },
+        Written::Refused(r) => numbered(r),
+    }
+}
+
+fn numbered(refusal: Refusal) -> Answer {
+    let r = refusal.numbers();
+    refused(r.number as usize, r.line)
+}
+
+fn same_plates(a: &Plate, b: &Plate) -> bool {
+    let mut i: usize = 0;
+    while i < 512 {
+        if a[i] != b[i] {
+            return false;
+        }
+        i += 1;
+    }
+    true
+}
+
+// Counts an answer that is not the table's, or plates that differ. The first few are shown, with their text.
+fn expect(answer: Answer, expected: Answer, plates: bool, text: &[u8], tally: &mut Tally) {
+    let refusals = (answer.number == expected.number) & (answer.line == expected.line);
+    if refusals & plates & (answer.length == expected.length) {
+        return;
+    }
+    add(tally, MISMATCHES);
+    if tally[12] < 5 {
+        show(b"answered", answer);
+        show(b", by the table", expected);
+        io::write_all(1, b"\n");
+        io::write_all(1, text);
+    }
+}
+
+fn show(name: &[u8], answer: Answer) {
+    io::write_all(1, name);
+    io::write_all(1, b" ");
+    io::print_decimal(1, answer.number as u64);
+    io::write_all(1, b" at line ");
+    io::print_decimal(1, answer.line as u64);
+}
