@@ -32,6 +32,12 @@
  * to 512; highest, value and step 0 to 511; choice below the count of positions.
  * In rows of numbers a position's entry stands at its number, and DUSHEMQA_NONE stands for "ever" and for "-".
  *
+ * A sheet of good moves is text in the chart's columns, without a first line:
+ *     G position target   a line for each meant move of an O position whose target has at least the position's own value, in the
+ *                         chart's order. Where the position reads "ever" that is each move into "ever", at an unsafe position
+ *                         each meant move; where a disturbance holds the value down, the targets may have several values.
+ *                         The plate's choice is always among them. Moves of L positions have no line
+ *
  * On a refusal everything that was lent is as it was, a run comes back as it was handed in, and all other numbers of the
  * answer are 0, save the position where a start began no run.
  */
@@ -46,13 +52,15 @@
 extern "C" {
 #endif
 
-/* The most positions and moves of a chart, and the bytes of the longest chart and the longest plate. */
+/* The most positions and moves of a chart, and the bytes of the longest chart, the longest plate and the longest sheet of good
+ * moves. */
 #define DUSHEMQA_MAX_POSITIONS 512
 #define DUSHEMQA_MAX_MOVES 4096
 #define DUSHEMQA_MAX_CHART_BYTES 55308
 #define DUSHEMQA_MAX_PLATE_BYTES 11286
+#define DUSHEMQA_MAX_SHEET_BYTES 49152
 
-/* The bytes of a chart's line and of a plate's line. */
+/* The bytes of a chart's line, which is also a line of a sheet of good moves, and of a plate's line. */
 #define DUSHEMQA_CHART_LINE_BYTES 12
 #define DUSHEMQA_PLATE_LINE_BYTES 22
 
@@ -158,6 +166,12 @@ typedef struct {
     dushemqa_advice advice;
 } dushemqa_step;
 
+/* What Listing answers. */
+typedef struct {
+    dushemqa_refusal refusal;
+    size_t lines; /* how many good moves the sheet has */
+} dushemqa_listed;
+
 /* Valuing: the values, choices and steps of a chart's positions into the first numbers of three rows.
  *   chart, chart_length      the chart's bytes
  *   values, values_length    a row for the values; numbers past the last position stay
@@ -239,6 +253,15 @@ dushemqa_step dushemqa_report(dushemqa_run run,
                               const uint8_t *chart, size_t chart_length,
                               const uint8_t *plate, size_t plate_length,
                               size_t to);
+
+/* Listing: every move that is as good as the chosen one, as a sheet of good moves. A positional controller is optimal, its worth
+ * the value at every position, exactly when all its choices at O are listed. Any controller, whatever it remembers, that makes
+ * only listed moves is worth the value at every position. The plate's own choices are always listed.
+ *   chart, chart_length  the chart's bytes
+ *   sheet, sheet_length  a buffer for the sheet; bytes past the sheet's last line stay. DUSHEMQA_MAX_SHEET_BYTES always suffice
+ * Refusals: 1 to 9; 10 if the sheet's lines don't fit. A chart without O positions has no line: then any length serves, 0 too. */
+dushemqa_listed dushemqa_good_moves(const uint8_t *chart, size_t chart_length,
+                                    uint8_t *sheet, size_t sheet_length);
 
 #ifdef __cplusplus
 }

@@ -35,6 +35,11 @@ static const struct command commands[] = {
      "where they differ.\n"},
     {"compare", "CHART PLATE CHOICES", 3, 3, NULL, compare_command, "a plate's values beside a controller's worths",
      "As 'lane weigh', with the values of PLATE, which must be accepted.\n"},
+    {"good", "CHART", 1, 1, NULL, good_command, "every move that is as good as the chosen one",
+     "Writes the good moves of CHART to standard output, in the chart's columns and order: a line G, position, target for\n"
+     "each meant move at O whose target has at least the position's value. A controller that makes only these moves,\n"
+     "whatever it remembers, is worth the value at every position; one that has a fixed choice for each position is\n"
+     "optimal only if all its choices at O are listed.\n"},
     {"run", "CHART PLATE START", 3, 3, NULL, run_command, "follow a machine by its reports",
      "Starts a run at position START and takes reports from standard input, each the number of the position that the\n"
      "machine went to, on a line of its own. After the start and after each report a line says where the run stands,\n"

@@ -28,6 +28,7 @@ enum status plate_command(const struct call *call);
 enum status check_command(const struct call *call);
 enum status weigh_command(const struct call *call);
 enum status compare_command(const struct call *call);
+enum status good_command(const struct call *call);
 enum status run_command(const struct call *call);
 enum status collection_command(const struct call *call);
 enum status picture_command(const struct call *call);

@@ -1,4 +1,4 @@
-/* lane plate, lane check. */
+/* lane plate, lane check, lane good. */
 #include "lane.h"
 
 enum status plate_command(const struct call *call)
@@ -23,5 +23,18 @@ enum status check_command(const struct call *call)
     if (refusal.number != DUSHEMQA_TAKEN)
         return say_refusal(&chart, &plate, refusal);
     printf("accepted\n");
+    return TAKEN;
+}
+
+enum status good_command(const struct call *call)
+{
+    struct text chart;
+    uint8_t sheet[DUSHEMQA_MAX_SHEET_BYTES];
+    if (!read_chart(call->words[0], &chart))
+        return UNUSABLE;
+    dushemqa_listed listed = dushemqa_good_moves(chart.bytes, chart.length, sheet, sizeof sheet);
+    if (listed.refusal.number != DUSHEMQA_TAKEN)
+        return say_refusal(&chart, NULL, listed.refusal);
+    fwrite(sheet, DUSHEMQA_CHART_LINE_BYTES, listed.lines, stdout);
     return TAKEN;
 }

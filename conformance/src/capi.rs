@@ -80,6 +80,13 @@ pub struct Step {
     pub advice: Advice,
 }
 
+#[repr(C)]
+#[derive(Clone, Copy, Debug, Default, PartialEq, Eq)]
+pub struct Listed {
+    pub refusal: Refusal,
+    pub lines: usize,
+}
+
 #[rustfmt::skip]
 extern "C" {
     fn dushemqa_value(chart: *const u8, chart_length: usize, values: *mut u16, values_length: usize,
@@ -97,6 +104,7 @@ extern "C" {
                       position: usize) -> Step;
     fn dushemqa_report(run: Run, chart: *const u8, chart_length: usize, plate: *const u8, plate_length: usize,
                        to: usize) -> Step;
+    fn dushemqa_good_moves(chart: *const u8, chart_length: usize, sheet: *mut u8, sheet_length: usize) -> Listed;
 }
 
 // In each call below a slice gives a pointer that is not null, as many elements as its length says, and, where it is
@@ -160,4 +168,8 @@ pub fn start(chart: &[u8], plate: &[u8], position: usize) -> Step {
 
 pub fn report(run: Run, chart: &[u8], plate: &[u8], to: usize) -> Step {
     unsafe { dushemqa_report(run, chart.as_ptr(), chart.len(), plate.as_ptr(), plate.len(), to) }
+}
+
+pub fn good_moves(chart: &[u8], sheet: &mut [u8]) -> Listed {
+    unsafe { dushemqa_good_moves(chart.as_ptr(), chart.len(), sheet.as_mut_ptr(), sheet.len()) }
 }

@@ -9,6 +9,7 @@ pub mod model;
 pub mod parts;
 pub mod random;
 pub mod shapes;
+pub mod sheets;
 pub mod solver;
 pub mod stacks;
 pub mod tally;

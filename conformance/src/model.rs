@@ -2,13 +2,14 @@
 //! come from their definition and not from rounds.
 
 mod check;
+mod good;
 mod parse;
 mod plate;
 mod run;
 mod values;
 mod weigh;
 
-use crate::capi::{Compared, FirstLine, Reading, Refusal, Run, Step, Valued, Written};
+use crate::capi::{Compared, FirstLine, Listed, Reading, Refusal, Run, Step, Valued, Written};
 use crate::chart::Chart;
 use std::cell::OnceCell;
 
@@ -23,6 +24,7 @@ pub struct Subject<'a> {
     pub text: &'a [u8],
     parsed: Result<Chart, Refusal>,
     valuation: OnceCell<Valuation>,
+    good: OnceCell<Vec<Vec<u16>>>,
 }
 
 /// A refusal that gives a line.
@@ -37,7 +39,7 @@ fn refused(number: u32) -> Refusal {
 
 impl<'a> Subject<'a> {
     pub fn new(text: &'a [u8]) -> Subject<'a> {
-        Subject { text, parsed: parse::parse(text), valuation: OnceCell::new() }
+        Subject { text, parsed: parse::parse(text), valuation: OnceCell::new(), good: OnceCell::new() }
     }
 
     pub fn chart(&self) -> Result<&Chart, Refusal> {
@@ -46,6 +48,16 @@ impl<'a> Subject<'a> {
 
     pub fn valuation(&self, chart: &Chart) -> &Valuation {
         self.valuation.get_or_init(|| Valuation::of(chart))
+    }
+
+    /// The targets of each position's good moves.
+    pub fn good(&self, chart: &Chart) -> &[Vec<u16>] {
+        self.good.get_or_init(|| good::targets(chart, &self.valuation(chart).values))
+    }
+
+    /// The least worth at each position of all controllers that make only good moves, whatever they remember.
+    pub fn least_good_worths(&self, chart: &Chart) -> Vec<u16> {
+        weigh::least_worths(chart, |v| &self.good(chart)[v])
     }
 
     /// Valuing, with rows of these lengths lent.
@@ -160,6 +172,23 @@ impl<'a> Subject<'a> {
             run,
             ..Step::default()
         })
+    }
+
+    /// Listing, with a buffer of this length lent.
+    pub fn good_moves(&self, length: usize) -> (Listed, Vec<u8>) {
+        match self.listed(length) {
+            Ok((lines, sheet)) => (Listed { refusal: Refusal::default(), lines }, sheet),
+            Err(refusal) => (Listed { refusal, lines: 0 }, Vec::new()),
+        }
+    }
+
+    fn listed(&self, length: usize) -> Result<(usize, Vec<u8>), Refusal> {
+        let good = self.good(self.chart()?);
+        let lines = good.iter().map(Vec::len).sum();
+        if length < 12 * lines {
+            return Err(refused(10));
+        }
+        Ok((lines, good::sheet(good)))
     }
 }
 

@@ -28,6 +28,16 @@ impl Share {
     }
 }
 
+/// All rows of choices of a chart: all its positional controllers.
+fn controllers(chart: &Chart) -> Vec<Vec<u16>> {
+    let mut rows = vec![Vec::new()];
+    for position in &chart.positions {
+        let choices: &[u16] = if position.owner == Owner::Console { &position.meant } else { &[NONE] };
+        rows = rows.iter().flat_map(|row| choices.iter().map(|&choice| [row.as_slice(), &[choice]].concat())).collect();
+    }
+    rows
+}
+
 /// A choice for each position at random: a meant target at O, none at L.
 fn random_choices(random: &mut Random, chart: &Chart) -> Vec<u16> {
     let choose = |position: &Position| match position.owner {

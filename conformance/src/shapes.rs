@@ -187,3 +187,10 @@ pub fn blocks(n: usize, moves: usize, height: usize) -> Chart {
     // More moves up change nothing: none leads below the block's value or to an earlier step.
     filled(Chart { positions }, moves, |from, to, _| to >= from)
 }
+
+/// The console's positions alone, all safe and without disturbances: every move is good.
+pub fn all_good(n: usize, moves: usize) -> Chart {
+    let position = |number| Position { owner: Owner::Console, safe: true, meant: vec![number], disturbances: vec![] };
+    let chart = Chart { positions: (0..n as u16).map(position).collect() };
+    filled(chart, moves, |_, _, disturbance| !disturbance)
+}

@@ -1,12 +1,13 @@
-//! The four long jobs once more, written for speed: linear time in the chart, local arrays and no heap. The timings set
+//! The five long jobs once more, written for speed: linear time in the chart, local arrays and no heap. The timings set
 //! the library beside this, and the test holds it to the model.
 
 mod board;
 mod field;
 mod plate;
 mod rounds;
+mod sheet;
 
-use crate::capi::{Refusal, Valued, Written, NONE};
+use crate::capi::{Listed, Refusal, Valued, Written, NONE};
 use crate::chart::POSITIONS;
 use board::Board;
 use plate::{Plate, LINE};
@@ -99,8 +100,40 @@ fn weighed(chart: &[u8], choices: &[u16], worths: &mut [u16]) -> Result<(), Refu
     Ok(())
 }
 
+/// Listing.
+pub fn good_moves(chart: &[u8], buffer: &mut [u8]) -> Listed {
+    match listed(chart, buffer) {
+        Ok(lines) => Listed { refusal: Refusal::default(), lines },
+        Err(refusal) => Listed { refusal, lines: 0 },
+    }
+}
+
+fn listed(chart: &[u8], buffer: &mut [u8]) -> Result<usize, Refusal> {
+    let mut board = Board::empty();
+    board.read(chart)?;
+    let (mut values, mut steps): (Row, Row) = ([NONE; POSITIONS], [NONE; POSITIONS]);
+    place(&board, &mut values, &mut steps);
+    let lines = sheet::lines(&board, &values);
+    if buffer.len() < sheet::LINE * lines {
+        return Err(refused(10));
+    }
+    sheet::write(&board, &values, buffer);
+    Ok(lines)
+}
+
 /// The plate of a chart.
 fn solve(board: &Board, plate: &mut Plate) {
+    let rounds = place(board, &mut plate.values, &mut plate.steps);
+    for v in 0..board.n {
+        if board.console[v] {
+            plate.choices[v] = greatest(board.meant(v), &plate.values);
+        }
+    }
+    plate.first_line = plate.summed(board.n, rounds);
+}
+
+/// The values and steps of a chart, in rows that hold "none" before. The answer is the count of rounds.
+fn place(board: &Board, values: &mut Row, steps: &mut Row) -> u16 {
     let mut left = [0; POSITIONS];
     for (v, count) in left[..board.n].iter_mut().enumerate() {
         *count = board.meant(v).len() as u16;
@@ -110,13 +143,7 @@ fn solve(board: &Board, plate: &mut Plate) {
         left[from] -= 1;
         !board.console[from] || left[from] == 0
     };
-    let rounds = rounds::place(board, &mut plate.values, &mut plate.steps, follows);
-    for v in 0..board.n {
-        if board.console[v] {
-            plate.choices[v] = greatest(board.meant(v), &plate.values);
-        }
-    }
-    plate.first_line = plate.summed(board.n, rounds);
+    rounds::place(board, values, steps, follows)
 }
 
 /// The first of the targets with the greatest value.

@@ -1,7 +1,7 @@
 //! The stack that each of the library's jobs uses.
 
 use crate::capi::{self, Run, NONE};
-use crate::chart::POSITIONS;
+use crate::chart::{MOVES, POSITIONS};
 use crate::measure::stack;
 use crate::model::Subject;
 use crate::tally::JOBS;
@@ -19,6 +19,7 @@ pub fn stacks(text: &[u8]) -> Vec<(&'static str, usize)> {
     let mut rows = [[0u16; POSITIONS]; 3];
     let [values, others, steps] = &mut rows;
     let mut written = [0u8; 22 * (POSITIONS + 1)];
+    let mut sheet = [0u8; 12 * MOVES];
     let taken = |number| assert_eq!(number, 0, "nothing was refused");
     let run = Run { position: 0, seen: 0, initial: 0 };
     let to = if choices[0] == NONE { chart.positions[0].meant[0] } else { choices[0] };
@@ -31,6 +32,7 @@ pub fn stacks(text: &[u8]) -> Vec<(&'static str, usize)> {
         stack(|| taken(capi::compare(text, plate, choices).refusal.number)),
         stack(|| taken(capi::start(text, plate, 0).refusal.number)),
         stack(|| taken(capi::report(run, text, plate, usize::from(to)).refusal.number)),
+        stack(|| taken(capi::good_moves(text, &mut sheet).refusal.number)),
     ];
     JOBS.into_iter().zip(bytes).collect()
 }

@@ -1,16 +1,16 @@
-//! What was tried: inputs, calls, how often each job gave each refusal, and what was seen of blanks.
+//! What was tried: inputs, calls, how often each job gave each refusal, and what was seen of blanks and of good moves.
 
-use crate::blanks::SIGHTS;
+use crate::{blanks, sheets};
 
 /// The jobs, in the order of the header.
-pub const JOBS: [&str; 8] = ["value", "write", "read", "check", "weigh", "compare", "start", "report"];
+pub const JOBS: [&str; 9] = ["value", "write", "read", "check", "weigh", "compare", "start", "report", "good"];
 
 /// The refusals of the table, with 0 for none.
 const NUMBERS: usize = 17;
 
 /// The refusals above 9 that each job has.
-const BEYOND: [&[usize]; 8] =
-    [&[10], &[10], &[10, 11], &[11, 14], &[10, 12], &[10, 11, 12, 14], &[11, 13, 14], &[11, 13, 15, 16]];
+const BEYOND: [&[usize]; JOBS.len()] =
+    [&[10], &[10], &[10, 11], &[11, 14], &[10, 12], &[10, 11, 12, 14], &[11, 13, 14], &[11, 13, 15, 16], &[10]];
 
 /// Fewer sightings than this of a refusal or a condition are too few to count as a test of it.
 const ENOUGH: u64 = 100;
@@ -19,17 +19,22 @@ const ENOUGH: u64 = 100;
 pub struct Tally {
     pub inputs: u64,
     pub calls: u64,
-    pub refusals: [[u64; NUMBERS]; 8],
+    pub refusals: [[u64; NUMBERS]; JOBS.len()],
     /// The conditions of refusal 14, 1 to 6.
     pub conditions: [u64; 7],
     /// Comparisons that found the rows the same, and that found them different.
     pub agreed: u64,
     pub differed: u64,
     /// How often each of the sights of blanks was seen.
-    pub blanks: [u64; SIGHTS.len()],
+    pub blanks: [u64; blanks::SIGHTS.len()],
     /// Pairs of a chart with blank marks and the same with 0 that were taken, and that were refused.
     pub pairs_taken: u64,
     pub pairs_refused: u64,
+    /// How often each of the sights of good moves was seen.
+    pub sheets: [u64; sheets::SIGHTS.len()],
+    /// Positional controllers all of whose choices are listed, and those with another choice.
+    pub listed: u64,
+    pub unlisted: u64,
 }
 
 impl Tally {
@@ -40,6 +45,8 @@ impl Tally {
         self.differed += other.differed;
         self.pairs_taken += other.pairs_taken;
         self.pairs_refused += other.pairs_refused;
+        self.listed += other.listed;
+        self.unlisted += other.unlisted;
         for (sum, part) in self.refusals.iter_mut().flatten().zip(other.refusals.iter().flatten()) {
             *sum += part;
         }
@@ -47,6 +54,9 @@ impl Tally {
             *sum += part;
         }
         for (sum, part) in self.blanks.iter_mut().zip(&other.blanks) {
+            *sum += part;
+        }
+        for (sum, part) in self.sheets.iter_mut().zip(&other.sheets) {
             *sum += part;
         }
     }
@@ -70,10 +80,10 @@ impl Tally {
         let conditions: Vec<String> = (1..7).map(|c| format!("{c}: {}", self.conditions[c])).collect();
         println!("conditions of refusal 14: {}", conditions.join(", "));
         println!("comparisons: {} the same, {} different", self.agreed, self.differed);
-        let blanks: Vec<String> =
-            SIGHTS.iter().zip(self.blanks).map(|(name, count)| format!("{name}: {count}")).collect();
-        blanks.chunks(4).for_each(|some| println!("blanks: {}", some.join(", ")));
+        print_sights("blanks", &blanks::SIGHTS, &self.blanks);
         println!("pairs of blank marks and 0: {} taken, {} refused", self.pairs_taken, self.pairs_refused);
+        print_sights("good moves", &sheets::SIGHTS, &self.sheets);
+        println!("controllers: {} with listed choices only, {} with others", self.listed, self.unlisted);
     }
 
     /// What was seen too seldom for this to be a test of it, if all counts of inputs were divided by `divisor`.
@@ -95,13 +105,23 @@ impl Tally {
         }
         want(self.agreed, "agreement of worths and values".to_string());
         want(self.differed, "difference of worths and values".to_string());
-        for (name, count) in SIGHTS.iter().zip(self.blanks) {
+        for (name, count) in blanks::SIGHTS.iter().zip(self.blanks) {
             want(count, format!("a blank, {name},"));
         }
+        for (name, count) in sheets::SIGHTS.iter().zip(self.sheets) {
+            want(count, format!("a sheet of good moves, {name},"));
+        }
+        want(self.listed, "a controller with listed choices only".to_string());
+        want(self.unlisted, "a controller with a choice that is not listed".to_string());
         want(self.pairs_taken, "a pair of blank marks and 0 that is taken".to_string());
         want(self.pairs_refused, "a pair of blank marks and 0 that is refused".to_string());
         missing
     }
+}
+
+fn print_sights(of: &str, names: &[&str], counts: &[u64]) {
+    let sights: Vec<String> = names.iter().zip(counts).map(|(name, count)| format!("{name}: {count}")).collect();
+    sights.chunks(4).for_each(|some| println!("{of}: {}", some.join(", ")));
 }
 
 /// Whether a job has a refusal. All have 1 to 9.

@@ -1,10 +1,10 @@
 //! One call of the library set against the model: the whole answer, and every lent byte or number after the call.
 
-use crate::blanks::sights;
-use crate::capi::{self, Refusal, Run};
+use crate::capi::{self, Refusal, Run, NONE};
+use crate::chart::Chart;
 use crate::model::{plate_text, Plate, Subject};
-use crate::solver;
 use crate::tally::{Tally, JOBS};
+use crate::{blanks, sheets, solver};
 use std::fmt::Debug;
 
 /// How many elements before and after what is lent are watched too.
@@ -78,7 +78,7 @@ impl Trial {
     pub fn input(&mut self, subject: &Subject) {
         let answer = subject.chart().err().unwrap_or_default();
         self.tally.inputs += 1;
-        for (count, seen) in self.tally.blanks.iter_mut().zip(sights(subject.text, answer)) {
+        for (count, seen) in self.tally.blanks.iter_mut().zip(blanks::sights(subject.text, answer)) {
             *count += u64::from(seen);
         }
     }
@@ -167,6 +167,42 @@ impl Trial {
         answer.run
     }
 
+    pub fn good_moves(&mut self, subject: &Subject, length: usize) {
+        let (answer, sheet) = subject.good_moves(length);
+        let mut lent = Lent::new(length);
+        let got = capi::good_moves(subject.text, lent.lend());
+        let given = Given { lengths: &[length], ..Given::default() };
+        self.settle(8, answer.refusal, got == answer && lent.holds(&sheet), || {
+            show(8, subject, &[], &given, &(answer, escaped(&sheet)), &(got, escaped(lent.shown())))
+        });
+        for (count, seen) in self.tally.sheets.iter_mut().zip(sheets::sights(subject, length)) {
+            *count += u64::from(seen);
+        }
+        if answer.refusal.number == 0 {
+            listed(subject);
+        }
+    }
+
+    /// Listing with room for the lines and no more, with one byte less, and with so many more.
+    pub fn good_moves_by_room(&mut self, subject: &Subject, more: usize) {
+        let room = sheets::room(subject);
+        self.good_moves(subject, room);
+        self.good_moves(subject, room + more);
+        if room > 0 {
+            self.good_moves(subject, room - 1);
+        }
+    }
+
+    /// A positional controller is optimal exactly when all its choices at O are listed.
+    pub fn controller(&mut self, subject: &Subject, chart: &Chart, choices: &[u16]) {
+        let (_, worths) = subject.weigh(choices, chart.len());
+        let listed = choices_listed(subject.good(chart), choices);
+        let optimal = worths == subject.valuation(chart).values;
+        assert_eq!(optimal, listed, "optimal exactly when listed: {choices:?} for {chart:?}");
+        self.tally.listed += u64::from(listed);
+        self.tally.unlisted += u64::from(!listed);
+    }
+
     /// The fast solver of the timings set against the model. These are no calls of the library, so none is counted.
     pub fn solver(&mut self, subject: &Subject, plate: &[u8], choices: &[u16]) {
         let length = choices.len();
@@ -185,6 +221,13 @@ impl Trial {
         let mut lent = Lent::new(length);
         let weighed = solver::weigh(subject.text, choices, lent.lend());
         assert!(weighed == answer && lent.holds(&worths), "solver's weigh: {}", escaped(subject.text));
+        let room = sheets::room(subject);
+        for length in [room, room.saturating_sub(1)] {
+            let (answer, sheet) = subject.good_moves(length);
+            let mut lent = Lent::new(length);
+            let listed = solver::good_moves(subject.text, lent.lend());
+            assert!(listed == answer && lent.holds(&sheet), "solver's good moves: {}", escaped(subject.text));
+        }
     }
 
     /// Counts a call of the job at this place among the jobs, or ends the program.
@@ -208,6 +251,20 @@ fn accepted(subject: &Subject, plate: &[u8]) {
     let (_, [values, choices, _]) = subject.read(plate, [chart.len(); 3]);
     assert_eq!(&values, right, "an accepted plate's values: {chart:?}");
     assert_eq!(&subject.weigh(&choices, chart.len()).1, right, "an accepted plate's choices: {chart:?}");
+}
+
+/// What is said of good moves: the plate's own choices are listed, and a controller that makes listed moves only is worth
+/// the value everywhere, whatever it remembers.
+fn listed(subject: &Subject) {
+    let chart = subject.chart().expect("the chart was taken");
+    let valuation = subject.valuation(chart);
+    assert!(choices_listed(subject.good(chart), &valuation.choices), "the plate's choices are listed: {chart:?}");
+    assert_eq!(subject.least_good_worths(chart), valuation.values, "listed moves keep the values: {chart:?}");
+}
+
+/// Whether each choice at O is the target of a good move.
+fn choices_listed(good: &[Vec<u16>], choices: &[u16]) -> bool {
+    good.iter().zip(choices).all(|(targets, choice)| *choice == NONE || targets.contains(choice))
 }
 
 fn hold(lent: &[Lent<u16>; 3], rows: &[Vec<u16>; 3]) -> bool {

@@ -6,18 +6,20 @@ use conformance::chart::{Chart, Owner, Position, MOVES, POSITIONS};
 use conformance::measure::{stack, times};
 use conformance::model::Subject;
 use conformance::random::Random;
-use conformance::shapes::{blocks, console_chain, drawn, filled, lane_chain, Reach, Shape};
+use conformance::shapes::{all_good, blocks, console_chain, drawn, filled, lane_chain, Reach, Shape};
 use conformance::solver;
 use conformance::stacks::stacks;
 use std::hint::black_box;
 
-const JOBS: [&str; 4] = ["value", "write", "check", "weigh"];
+const JOBS: [&str; 5] = ["value", "write", "check", "weigh", "good"];
 
-/// What the jobs are given: a chart with its plate, and the plate's choices.
+/// What the jobs are given: a chart with its plate, and the plate's choices; and the count of good moves that is to be
+/// answered.
 struct Input {
     chart: Vec<u8>,
     plate: Vec<u8>,
     choices: Vec<u16>,
+    good_moves: usize,
 }
 
 impl Input {
@@ -26,7 +28,8 @@ impl Input {
         let subject = Subject::new(&text);
         let (_, plate) = subject.write(22 * (chart.len() + 1));
         let choices = subject.valuation(chart).choices.clone();
-        Input { plate, choices, chart: text }
+        let good_moves = subject.good_moves(12 * MOVES).0.lines;
+        Input { plate, choices, good_moves, chart: text }
     }
 }
 
@@ -34,11 +37,12 @@ impl Input {
 struct Lent {
     rows: [[u16; POSITIONS]; 3],
     plate: [u8; 22 * (POSITIONS + 1)],
+    sheet: [u8; 12 * MOVES],
 }
 
 impl Lent {
     fn new() -> Lent {
-        Lent { rows: [[0; POSITIONS]; 3], plate: [0; 22 * (POSITIONS + 1)] }
+        Lent { rows: [[0; POSITIONS]; 3], plate: [0; 22 * (POSITIONS + 1)], sheet: [0; 12 * MOVES] }
     }
 }
 
@@ -49,7 +53,8 @@ fn library(job: usize, input: &Input, lent: &mut Lent) {
         0 => assert_eq!(capi::value(&input.chart, values, choices, steps).refusal.number, 0),
         1 => assert_eq!(capi::write(&input.chart, &mut lent.plate).length, input.plate.len()),
         2 => assert_eq!(capi::check(&input.chart, &input.plate).number, 0),
-        _ => assert_eq!(capi::weigh(&input.chart, &input.choices, values).number, 0),
+        3 => assert_eq!(capi::weigh(&input.chart, &input.choices, values).number, 0),
+        _ => assert_eq!(capi::good_moves(&input.chart, &mut lent.sheet).lines, input.good_moves),
     }
     black_box(lent);
 }
@@ -61,7 +66,8 @@ fn rust(job: usize, input: &Input, lent: &mut Lent) {
         0 => assert_eq!(solver::value(&input.chart, values, choices, steps).refusal.number, 0),
         1 => assert_eq!(solver::write(&input.chart, &mut lent.plate).length, input.plate.len()),
         2 => assert_eq!(solver::check(&input.chart, &input.plate).number, 0),
-        _ => assert_eq!(solver::weigh(&input.chart, &input.choices, values).number, 0),
+        3 => assert_eq!(solver::weigh(&input.chart, &input.choices, values).number, 0),
+        _ => assert_eq!(solver::good_moves(&input.chart, &mut lent.sheet).lines, input.good_moves),
     }
     black_box(lent);
 }
@@ -71,7 +77,8 @@ fn both(job: usize, input: &Input) -> (f64, f64) {
     let (mut one, mut other) = (Lent::new(), Lent::new());
     library(job, input, &mut one);
     rust(job, input, &mut other);
-    assert!(one.rows == other.rows && one.plate == other.plate, "the two answer alike");
+    let alike = one.rows == other.rows && one.plate == other.plate && one.sheet == other.sheet;
+    assert!(alike, "the two answer alike");
     times(|| library(job, input, &mut one), || rust(job, input, &mut other))
 }
 
@@ -123,6 +130,7 @@ fn kinds() -> Vec<(&'static str, Chart)> {
         ("chain of O, 512 rounds", console_chain(POSITIONS, MOVES)),
         ("512 values", blocks(POSITIONS, MOVES, 1)),
         ("32 values, 16 steps each", blocks(POSITIONS, MOVES, 16)),
+        ("all moves good", all_good(POSITIONS, MOVES)),
         ("64 positions, 64 meant each", dense(64, 64, 0)),
         ("64 positions, 32 and 32 each", dense(64, 32, 32)),
     ]

@@ -16,15 +16,21 @@ pub fn legal(chart: &Chart, choices: &[u16]) -> Result<(), Refusal> {
     Err(refused(12))
 }
 
-/// The least count of disturbances on an unsafe play from each position. Costs are lowered as long as some move lowers
-/// one: then each is the least.
+/// The least count of disturbances on an unsafe play from each position.
 pub fn worths(chart: &Chart, choices: &[u16]) -> Vec<u16> {
+    least_worths(chart, |v| &choices[v..=v])
+}
+
+/// The least worth at each position of all controllers that choose among given targets at each O position, whatever they
+/// remember: a play follows any of these targets, and every such play is one of such a controller's. Costs are lowered as
+/// long as some move lowers one: then each is the least.
+pub fn least_worths<'a>(chart: &Chart, given: impl Fn(usize) -> &'a [u16]) -> Vec<u16> {
     let mut worths: Vec<u16> = chart.positions.iter().map(|p| if p.safe { NONE } else { 0 }).collect();
     let mut lowered = true;
     while lowered {
         lowered = false;
         for v in 0..chart.len() {
-            let least = through(&chart.positions[v], choices[v], &worths);
+            let least = through(&chart.positions[v], given(v), &worths);
             if least < worths[v] {
                 worths[v] = least;
                 lowered = true;
@@ -35,12 +41,11 @@ pub fn worths(chart: &Chart, choices: &[u16]) -> Vec<u16> {
 }
 
 /// The least cost of an unsafe play that begins with a move from this position.
-fn through(position: &Position, choice: u16, worths: &[u16]) -> u16 {
-    let worth = |to: u16| worths[usize::from(to)];
-    let least = |list: &[u16]| list.iter().map(|&to| worth(to)).min().unwrap_or(NONE);
+fn through(position: &Position, given: &[u16], worths: &[u16]) -> u16 {
+    let least = |list: &[u16]| list.iter().map(|&to| worths[usize::from(to)]).min().unwrap_or(NONE);
     match position.owner {
         Owner::Lane => least(&position.meant),
         // One more than "ever" stays "ever".
-        Owner::Console => worth(choice).min(least(&position.disturbances).saturating_add(1)),
+        Owner::Console => least(given).min(least(&position.disturbances).saturating_add(1)),
     }
 }

@@ -1,9 +1,8 @@
 //! Part 2: all positional controllers of the charts of one and two positions, and of a sample of those of three, are
 //! weighed, their worths compared with the plate, and the plates that the optimal ones make checked.
 
-use super::Share;
-use crate::capi::NONE;
-use crate::chart::{small_chart, small_charts, Chart, Owner};
+use super::{controllers, Share};
+use crate::chart::{small_chart, small_charts, Chart};
 use crate::model::{plate_text, Plate, Subject};
 use crate::random::Random;
 use crate::tally::Tally;
@@ -51,14 +50,4 @@ fn optimal(trial: &mut Trial, subject: &Subject, plate: Plate) {
     let text = plate_text(&plate);
     assert_eq!(subject.check(&text).number, 0, "an optimal controller's plate is accepted: {plate:?}");
     trial.check(subject, &text);
-}
-
-/// All rows of choices.
-fn controllers(chart: &Chart) -> Vec<Vec<u16>> {
-    let mut rows = vec![Vec::new()];
-    for position in &chart.positions {
-        let choices: &[u16] = if position.owner == Owner::Console { &position.meant } else { &[NONE] };
-        rows = rows.iter().flat_map(|row| choices.iter().map(|&choice| [row.as_slice(), &[choice]].concat())).collect();
-    }
-    rows
 }

@@ -50,8 +50,9 @@ fn call(trial: &mut Trial, random: &mut Random, subject: &Subject, setting: &Set
         6 => {
             trial.start(subject, plate, besides.start);
         }
-        _ => {
+        7 => {
             trial.report(subject, besides.run, plate, besides.to);
         }
+        _ => trial.good_moves(subject, besides.sheet),
     }
 }

@@ -1,8 +1,9 @@
-//! Part 3: pseudo-random charts up to the limits, with every job on each and a run of reports.
+//! Part 3: pseudo-random charts up to the limits, with every job on each, a run of reports, and controllers held against
+//! the list of good moves.
 
 use super::{random_choices, Share};
 use crate::blanks::leave_out_some;
-use crate::capi::Run;
+use crate::capi::{Run, NONE};
 use crate::chart::{Chart, Owner, MOVES, POSITIONS};
 use crate::model::Subject;
 use crate::random::Random;
@@ -85,6 +86,37 @@ fn one(trial: &mut Trial, random: &mut Random, chart: &Chart) {
         trial.solver(&subject, &plate, choices);
     }
     run(trial, random, chart, &subject, &plate);
+    good_moves(trial, random, chart, &subject);
+}
+
+/// The list, and controllers held against it: any, one that makes good moves only, and the same with one slip.
+fn good_moves(trial: &mut Trial, random: &mut Random, chart: &Chart, subject: &Subject) {
+    let good = subject.good(chart);
+    trial.good_moves_by_room(subject, random.between(1, 30));
+    let any = random_choices(random, chart);
+    let listed = good_choices(random, good);
+    let slip = with_a_slip(random, chart, &listed, good);
+    for choices in [any, listed, slip] {
+        trial.controller(subject, chart, &choices);
+    }
+}
+
+/// A choice for each position at random among the good moves.
+fn good_choices(random: &mut Random, good: &[Vec<u16>]) -> Vec<u16> {
+    good.iter().map(|targets| if targets.is_empty() { NONE } else { *random.pick(targets) }).collect()
+}
+
+/// The same choices but for one that is not good, where some position has such a move.
+fn with_a_slip(random: &mut Random, chart: &Chart, choices: &[u16], good: &[Vec<u16>]) -> Vec<u16> {
+    let mut choices = choices.to_vec();
+    let console = |v: &usize| chart.positions[*v].owner == Owner::Console;
+    let moves = (0..chart.len()).filter(console).flat_map(|v| chart.positions[v].meant.iter().map(move |&to| (v, to)));
+    let bad: Vec<_> = moves.filter(|(v, to)| !good[*v].contains(to)).collect();
+    if !bad.is_empty() {
+        let &(v, to) = random.pick(&bad);
+        choices[v] = to;
+    }
+    choices
 }
 
 /// A run that goes on from each answer.

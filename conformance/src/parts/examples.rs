@@ -1,11 +1,11 @@
 //! Part 0: the model itself gives what document 01 says of its example, of the charts at the edges, and of the refusals'
-//! examples, and what document 02 says of blanks (order 1).
+//! examples, and what document 02 says of blanks (order 1) and of good moves (order 2).
 
 use crate::blanks::leave_out;
 use crate::capi::{Refusal, Run, NONE};
 use crate::chart::{MOVES, POSITIONS};
 use crate::model::Subject;
-use crate::shapes::{blocks, console_chain, lane_chain};
+use crate::shapes::{all_good, blocks, console_chain, lane_chain};
 use crate::tally::Tally;
 use crate::trial::Trial;
 
@@ -35,33 +35,51 @@ const PLATE: &[&str] = &[
     "V    4 ever    4    -",
 ];
 
-/// A chart at the edge: its name, its lines, and the value, choice and step of its first positions.
-type Edge = (&'static str, &'static [&'static str], &'static [[u16; 3]]);
+/// The printed chart's good moves, by the printed values. Position 2, which reads 1, may stay or go to 0, which reads 2.
+const SHEET: &[&str] = &["G    0    1", "G    2    0", "G    2    2", "G    4    4"];
+
+/// A chart at the edge: its name, its lines, the value, choice and step of its first positions, and its good moves. The last
+/// three are charts at the edges of what a good move is.
+type Edge = (&'static str, &'static [&'static str], &'static [[u16; 3]], &'static [&'static str]);
 
 #[rustfmt::skip]
-const EDGES: [Edge; 14] = [
-    ("a", CHART, &[[2, 1, 0], [2, NONE, 1], [1, 0, 0], [0, NONE, 0], [NONE, 4, NONE]]),
-    ("b", &["H    1    1", "L    0    1", "M    0    0"], &[[0, NONE, 0]]),
-    ("c", &["H    1    1", "O    0    0", "M    0    0"], &[[NONE, 0, NONE]]),
-    ("d", &["H    1    2", "O    0    0", "M    0    0", "D    0    0"], &[[NONE, 0, NONE]]),
+const EDGES: [Edge; 17] = [
+    ("a", CHART, &[[2, 1, 0], [2, NONE, 1], [1, 0, 0], [0, NONE, 0], [NONE, 4, NONE]], SHEET),
+    ("b", &["H    1    1", "L    0    1", "M    0    0"], &[[0, NONE, 0]], &[]),
+    ("c", &["H    1    1", "O    0    0", "M    0    0"], &[[NONE, 0, NONE]], &["G    0    0"]),
+    ("d", &["H    1    2", "O    0    0", "M    0    0", "D    0    0"], &[[NONE, 0, NONE]], &["G    0    0"]),
     ("e", &["H    2    3", "O    0    0", "L    1    1", "M    0    0", "D    0    1", "M    1    1"],
-        &[[1, 0, 0], [0, NONE, 0]]),
+        &[[1, 0, 0], [0, NONE, 0]], &["G    0    0"]),
     ("f", &["H    2    3", "O    0    0", "L    1    0", "M    0    1", "D    0    1", "M    1    1"],
-        &[[NONE, 1, NONE], [NONE, NONE, NONE]]),
+        &[[NONE, 1, NONE], [NONE, NONE, NONE]], &["G    0    1"]),
     ("f with 1 unsafe", &["H    2    3", "O    0    0", "L    1    1", "M    0    1", "D    0    1", "M    1    1"],
-        &[[0, 1, 1], [0, NONE, 0]]),
+        &[[0, 1, 1], [0, NONE, 0]], &["G    0    1"]),
     ("g", &["H    2    3", "L    0    0", "L    1    1", "M    0    0", "M    0    1", "M    1    1"],
-        &[[0, NONE, 1], [0, NONE, 0]]),
-    ("h", &["H    2    2", "O    0    0", "L    1    1", "M    0    1", "M    1    1"], &[[0, 1, 1], [0, NONE, 0]]),
+        &[[0, NONE, 1], [0, NONE, 0]], &[]),
+    ("h", &["H    2    2", "O    0    0", "L    1    1", "M    0    1", "M    1    1"], &[[0, 1, 1], [0, NONE, 0]],
+        &["G    0    1"]),
     ("i", &["H    2    2", "O    0    1", "L    1    0", "M    0    1", "M    1    1"],
-        &[[0, 1, 0], [NONE, NONE, NONE]]),
+        &[[0, 1, 0], [NONE, NONE, NONE]], &["G    0    1"]),
     ("j", &["H    2    2", "L    0    0", "L    1    0", "M    0    1", "M    1    0"],
-        &[[NONE, NONE, NONE], [NONE, NONE, NONE]]),
-    ("c, all marks blank", &["H    1    1", "O    0     ", "M    0    0"], &[[NONE, 0, NONE]]),
+        &[[NONE, NONE, NONE], [NONE, NONE, NONE]], &[]),
+    ("c, all marks blank", &["H    1    1", "O    0     ", "M    0    0"], &[[NONE, 0, NONE]], &["G    0    0"]),
     ("e, its safe mark blank", &["H    2    3", "O    0     ", "L    1    1", "M    0    0", "D    0    1", "M    1    1"],
-        &[[1, 0, 0], [0, NONE, 0]]),
+        &[[1, 0, 0], [0, NONE, 0]], &["G    0    0"]),
     ("j, all marks blank", &["H    2    2", "L    0     ", "L    1     ", "M    0    1", "M    1    0"],
-        &[[NONE, NONE, NONE], [NONE, NONE, NONE]]),
+        &[[NONE, NONE, NONE], [NONE, NONE, NONE]], &[]),
+    ("held down by a disturbance: targets of values 1, ever and 2 are good, of value 0 not",
+        &["H    4    9", "O    0    0", "L    1    0", "O    2    0", "L    3    1", "M    0    0", "M    0    1",
+          "M    0    2", "M    0    3", "D    0    3", "M    1    1", "M    2    2", "D    2    0", "M    3    3"],
+        &[[1, 1, 0], [NONE, NONE, NONE], [2, 2, 0], [0, NONE, 0]],
+        &["G    0    0", "G    0    1", "G    0    2", "G    2    2"]),
+    ("an unsafe O: all meant moves are good",
+        &["H    3    6", "O    0    1", "L    1    0", "L    2    1", "M    0    0", "M    0    1", "M    0    2",
+          "D    0    1", "M    1    1", "M    2    2"],
+        &[[0, 1, 0], [NONE, NONE, NONE], [0, NONE, 0]], &["G    0    0", "G    0    1", "G    0    2"]),
+    ("ever, with moves into 1 and 0 that are not good",
+        &["H    3    7", "O    0    0", "O    1    0", "L    2    1", "M    0    0", "M    0    1", "M    0    2",
+          "M    1    0", "M    1    1", "D    1    2", "M    2    2"],
+        &[[NONE, 0, NONE], [1, 0, 0], [0, NONE, 0]], &["G    0    0", "G    1    0", "G    1    1"]),
 ];
 
 /// Positions of the printed chart whose marks are left out: the first, one in the middle, the last, all that are safe.
@@ -113,8 +131,9 @@ const BLANKS: [(&[&str], u32, usize); 24] = [
 
 pub fn part() -> Tally {
     let mut trial = Trial::default();
-    for (name, lines, expected) in EDGES {
+    for (name, lines, expected, sheet) in EDGES {
         edge(&mut trial, name, &text(lines), expected);
+        good_moves(&mut trial, name, &text(lines), &text(sheet));
     }
     for (lines, number, line) in REFUSED.into_iter().chain(BLANKS) {
         let chart = text(lines);
@@ -124,6 +143,8 @@ pub fn part() -> Tally {
         trial.input(&subject);
         trial.value(&subject, [9; 3]);
         trial.write(&subject, 99);
+        trial.good_moves(&subject, 99);
+        trial.good_moves(&subject, 0);
         trial.solver(&subject, &[], &[0; 9]);
     }
     printed(&mut trial, &text(CHART));
@@ -159,6 +180,17 @@ fn edge(trial: &mut Trial, name: &str, chart: &[u8], expected: &[[u16; 3]]) {
     trial.solver(&subject, &plate, &rows[1]);
 }
 
+/// A chart's sheet of good moves, with refusal 10 exactly where its lines don't fit.
+fn good_moves(trial: &mut Trial, name: &str, chart: &[u8], expected: &[u8]) {
+    let subject = Subject::new(chart);
+    let (listed, sheet) = subject.good_moves(expected.len());
+    assert_eq!((listed.lines, sheet.as_slice()), (expected.len() / 12, expected), "edge {name}, good moves");
+    if !expected.is_empty() {
+        assert_eq!(subject.good_moves(expected.len() - 1).0.refusal.number, 10, "edge {name}, no room");
+    }
+    trial.good_moves_by_room(&subject, 25);
+}
+
 /// The plate that the document prints beside its chart, which this is, perhaps with blank marks.
 fn printed(trial: &mut Trial, chart: &[u8]) {
     let plate = text(PLATE);
@@ -172,6 +204,7 @@ fn printed(trial: &mut Trial, chart: &[u8]) {
     trial.check(&subject, &plate);
     trial.compare(&subject, &plate, &[1, NONE, 0, NONE, 4]);
     trial.solver(&subject, &plate, &[1, NONE, 0, NONE, 4]);
+    good_moves(trial, "printed", chart, &text(SHEET));
 }
 
 /// The table's examples of refusals 10 to 16, all on the printed chart.
@@ -215,4 +248,15 @@ fn longest(trial: &mut Trial) {
     }
     let text = ladder.text();
     assert_eq!(Subject::new(&text).valuation(&ladder).first_line.highest, 511);
+    longest_sheet(trial);
+}
+
+/// A line for each of 4,096 moves: 49,152 bytes.
+fn longest_sheet(trial: &mut Trial) {
+    let text = all_good(POSITIONS, MOVES).text();
+    let subject = Subject::new(&text);
+    let (listed, sheet) = subject.good_moves(49_152);
+    assert_eq!((listed.lines, sheet.len()), (4096, 49_152), "the longest sheet");
+    trial.tally.inputs += 1;
+    trial.good_moves_by_room(&subject, 12);
 }

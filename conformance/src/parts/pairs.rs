@@ -5,7 +5,7 @@
 use super::setting::{Besides, Setting, KINDS};
 use super::Share;
 use crate::blanks::{filled_in, leave_out};
-use crate::capi::{self, Compared, Reading, Refusal, Step, Valued, Written};
+use crate::capi::{self, Compared, Listed, Reading, Refusal, Step, Valued, Written};
 use crate::chart::{small_chart, small_charts};
 use crate::model::Subject;
 use crate::random::Random;
@@ -77,16 +77,19 @@ struct Outcome {
     compared: Compared,
     started: Step,
     reported: Step,
+    listed: Listed,
     valued_rows: [Lent<u16>; 3],
     plate: Lent<u8>,
     read_rows: [Lent<u16>; 3],
     worths: Lent<u16>,
+    sheet: Lent<u8>,
 }
 
 fn outcome(chart: &[u8], setting: &Setting, besides: &Besides) -> Outcome {
     let (plate, choices) = (&setting.plate, &setting.choices);
     let (mut valued_rows, mut read_rows) = (besides.rows.map(Lent::new), besides.rows.map(Lent::new));
     let (mut written, mut worths) = (Lent::new(besides.buffer), Lent::new(besides.rows[0]));
+    let mut sheet = Lent::new(besides.sheet);
     let [values, others, steps] = &mut valued_rows;
     let [read_values, read_choices, read_steps] = &mut read_rows;
     Outcome {
@@ -98,9 +101,11 @@ fn outcome(chart: &[u8], setting: &Setting, besides: &Besides) -> Outcome {
         compared: capi::compare(chart, plate, choices),
         started: capi::start(chart, plate, besides.start),
         reported: capi::report(besides.run, chart, plate, besides.to),
+        listed: capi::good_moves(chart, sheet.lend()),
         valued_rows,
         plate: written,
         read_rows,
         worths,
+        sheet,
     }
 }

@@ -9,16 +9,17 @@ use crate::chart::{Chart, Position, POSITIONS};
 use crate::model::{plate_text, Subject};
 use crate::random::Random;
 use crate::shapes::{drawn, SHAPES};
+use crate::sheets;
 
 /// What is damaged, with the jobs that are tried on it, by their places among the jobs.
 pub const KINDS: [(Kind, &[usize]); 7] = [
-    (Kind::Chart, &[0, 1, 2, 3, 4, 5, 6, 7]),
-    (Kind::Blanks, &[0, 1, 2, 3, 4, 5, 6, 7]),
+    (Kind::Chart, &[0, 1, 2, 3, 4, 5, 6, 7, 8]),
+    (Kind::Blanks, &[0, 1, 2, 3, 4, 5, 6, 7, 8]),
     (Kind::PlateText, &[2, 3, 5, 6, 7]),
     (Kind::PlateNumbers, &[2, 3, 3, 5, 6, 7]),
     (Kind::Choices, &[4, 4, 5]),
     (Kind::Run, &[6, 7, 7]),
-    (Kind::Lengths, &[0, 1, 2, 4, 5]),
+    (Kind::Lengths, &[0, 1, 2, 4, 5, 8]),
 ];
 
 #[derive(Clone, Copy, PartialEq, Eq)]
@@ -36,6 +37,8 @@ pub enum Kind {
 /// What the jobs are given.
 pub struct Setting {
     good: Chart,
+    /// How many good moves it has.
+    good_moves: usize,
     pub chart: Vec<u8>,
     pub plate: Vec<u8>,
     pub choices: Vec<u16>,
@@ -43,10 +46,12 @@ pub struct Setting {
     odd_lengths: bool,
 }
 
-/// What calls are given besides: the lengths of lent rows and of a lent buffer, where a run starts, a run and its report.
+/// What calls are given besides: the lengths of lent rows and of the buffers for a plate and for a sheet of good moves, where a
+/// run starts, a run and its report.
 pub struct Besides {
     pub rows: [usize; 3],
     pub buffer: usize,
+    pub sheet: usize,
     pub start: usize,
     pub run: Run,
     pub to: usize,
@@ -80,7 +85,8 @@ impl Setting {
             true => subject.valuation(&good).choices.clone(),
             false => random_choices(random, &good),
         };
-        Setting { good, chart, plate, choices, odd_run: false, odd_lengths: false }
+        let good_moves = sheets::room(&subject) / sheets::LINE;
+        Setting { good, good_moves, chart, plate, choices, odd_run: false, odd_lengths: false }
     }
 
     pub fn damage(&mut self, random: &mut Random, kind: Kind) {
@@ -136,6 +142,7 @@ impl Setting {
         Besides {
             rows: [0; 3].map(|_| self.length(random, n, 1)),
             buffer: self.length(random, n + 1, PLATE),
+            sheet: self.length(random, self.good_moves, sheets::LINE),
             start: self.start(random),
             run,
             to: self.went(random, run),
@@ -150,8 +157,8 @@ impl Setting {
         }
         match random.below(8) {
             0 => 0,
-            1 => exact - 1,
-            2 => random.below(exact),
+            1 => exact.saturating_sub(1),
+            2 => random.below(exact.max(1)),
             3 => exact + random.below(50),
             _ => exact,
         }

@@ -1,7 +1,7 @@
-//! Part 1: every chart of one, two and three positions is valued, its plate written, read and checked, and the plate's
-//! choices weighed.
+//! Part 1: every chart of one, two and three positions is valued, its plate written, read and checked, the plate's choices
+//! weighed, and its good moves listed. Of all positional controllers of each, those are optimal whose choices are listed.
 
-use super::Share;
+use super::{controllers, Share};
 use crate::chart::{small_chart, small_charts};
 use crate::model::Subject;
 use crate::tally::Tally;
@@ -31,4 +31,8 @@ fn one(trial: &mut Trial, n: usize, number: usize) {
     trial.read(&subject, &plate, [n, n + more, n + 1]);
     trial.check(&subject, &plate);
     trial.weigh(&subject, &subject.valuation(&chart).choices, n + more);
+    trial.good_moves_by_room(&subject, 1 + 7 * more);
+    for choices in controllers(&chart) {
+        trial.controller(&subject, &chart, &choices);
+    }
 }

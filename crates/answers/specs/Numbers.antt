@@ -16,6 +16,8 @@ use Rattle.checking.specs.declared.Checked.{Checked}
 use Rattle.checking.specs.declared.Checked.the-variants.{Accepted, Refused as NotAccepted}
 use Rattle.comparing.specs.declared.Compared.{Compared}
 use Rattle.comparing.specs.declared.Compared.the-variants.{Agree, Differ, Refused as NotCompared}
+use Rattle.listing.specs.declared.Listed.{Listed}
+use Rattle.listing.specs.declared.Listed.the-variants.{Lines, Refused as NotListed}
 use Rattle.run.specs.Running.{noRun}
 use Rattle.run.specs.declared.Run.{Run}
 use Rattle.run.specs.declared.Started.{Started}
@@ -27,6 +29,7 @@ use Rattle.answers.specs.declared.ValuedNumbers.{ValuedNumbers}
 use Rattle.answers.specs.declared.WrittenNumbers.{WrittenNumbers}
 use Rattle.answers.specs.declared.ReadingNumbers.{ReadingNumbers}
 use Rattle.answers.specs.declared.ComparedNumbers.{ComparedNumbers}
+use Rattle.answers.specs.declared.ListedNumbers.{ListedNumbers}
 use Rattle.answers.specs.declared.Step.{Step}
 
 abbrev pub valuedNumbers : Valued → ValuedNumbers
@@ -53,6 +56,10 @@ abbrev pub comparedNumbers : Compared → ComparedNumbers
 comparedNumbers Agree = record { refusal = noNumbers; agree = true; position = 0; value = 0; worth = 0 }
 comparedNumbers (Differ v x y) = record { refusal = noNumbers; agree = false; position = v; value = x; worth = y }
 comparedNumbers (NotCompared x) = record { refusal = numbersOf x; agree = false; position = 0; value = 0; worth = 0 }
+
+abbrev pub listedNumbers : Listed → ListedNumbers
+listedNumbers (Lines lines) = record { refusal = noNumbers; lines = lines }
+listedNumbers (NotListed x) = record { refusal = numbersOf x; lines = 0 }
 
 -- a refusal, with the run that comes back
 abbrev pub refusedStep : Refusal → Run → Step

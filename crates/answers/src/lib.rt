@@ -1,9 +1,10 @@
 // The jobs' answers as C has them: numbers in structs that lie as C's do. Each is the result's own numbers, or the refusal's by the one
 // table and zeros.
 ghost use mathlib.Core.Path.{_≡_};
-ghost use Rattle.answers.specs.Numbers.{answerNumbers, checkedNumbers, comparedNumbers, readingNumbers, refusedStep, reportedNumbers, startedNumbers, valuedNumbers, weighedNumbers, writtenNumbers};
+ghost use Rattle.answers.specs.Numbers.{answerNumbers, checkedNumbers, comparedNumbers, listedNumbers, readingNumbers, refusedStep, reportedNumbers, startedNumbers, valuedNumbers, weighedNumbers, writtenNumbers};
 use checking::Checked;
 use comparing::Compared;
+use listing::Listed;
 use reading::Reading;
 use refusal::Numbers;
 use refusal::Refusal;
@@ -42,6 +43,12 @@ pub struct ComparedNumbers {
     pub position: usize,
     pub value: u16,
     pub worth: u16,
+}
+
+#[repr(C)]
+pub struct ListedNumbers {
+    pub refusal: Numbers,
+    pub lines: usize,
 }
 
 // A run that was started or moved on, or that a refusal left as it was.
@@ -143,6 +150,21 @@ pub fn compared_numbers(answer: Compared) -> ComparedNumbers
             position: 0,
             value: 0,
             worth: 0,
+        },
+    }
+}
+
+pub fn listed_numbers(answer: Listed) -> ListedNumbers
+    ensures { λ r. ⌜ r ≡ listedNumbers answer ⌝ }
+{
+    match answer {
+        Listed::Lines(lines) => ListedNumbers {
+            refusal: Numbers::none(),
+            lines,
+        },
+        Listed::Refused(r) => ListedNumbers {
+            refusal: r.numbers(),
+            lines: 0,
         },
     }
 }

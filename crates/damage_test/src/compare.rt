@@ -1,5 +1,5 @@
-// Compares the library's answer to a text with the table's, and with its answer to the same text with 0 in the place of blank marks; and
-// counts.
+// Compares the library's answers to a text with the table's, and with its answers to the same text with 0 in the place of blank marks;
+// and counts.
 use crate::damage::damage;
 use crate::draw::NONE;
 use crate::draw::Page;
@@ -13,6 +13,8 @@ use crate::table::refused;
 use crate::table::spells;
 use chart::Examination;
 use chart::examine;
+use listing::Listed;
+use listing::list_good_moves;
 use refusal::Refusal;
 use writing::Written;
 use writing::write_plate;
@@ -26,8 +28,8 @@ const BLANK_ACCEPTED: usize = 11;
 
 const MISMATCHES: usize = 12;
 
-// Room for a small chart's plate.
-type Plate = [u8; 512];
+// Room for a small chart's plate, and for all its good moves.
+type Sheet = [u8; 2048];
 
 fn add(tally: &mut Tally, k: usize) {
     tally[k % 13] = tally[k % 13] % 1000000000 + 1;
@@ -87,15 +89,33 @@ fn is_blank(page: &Page, i: usize) -> bool {
 
 // All comparisons of a text. In the filled one every blank mark is 0.
 pub fn compare_text(text: &[u8], filled: &[u8], blanks: usize, tally: &mut Tally) {
-    let mut plate = [b'#'; 512];
-    let mut other = [b'#'; 512];
+    let mut plate = [b'#'; 2048];
+    let mut other = [b'#'; 2048];
     let expected = judge(text);
     count(expected.number, blanks, tally);
     expect(examined(examine(text)), expected, true, text, tally);
     let answer = written(write_plate(text, &mut plate));
     expect(answer, expected, true, text, tally);
     let answer = written(write_plate(filled, &mut other));
-    expect(answer, expected, same_plates(&plate, &other), text, tally);
+    expect(answer, expected, same_sheets(&plate, &other), text, tally);
+    compare_sheets(text, filled, expected, tally);
+}
+
+// Listing. The table says nothing of the lines: there are as many as in the filled text. A refusal leaves the sheet.
+fn compare_sheets(text: &[u8], filled: &[u8], expected: Answer, tally: &mut Tally) {
+    let blank = [b'#'; 2048];
+    let mut sheet = [b'#'; 2048];
+    let mut other = [b'#'; 2048];
+    let answer = listed(list_good_moves(text, &mut sheet));
+    let again = listed(list_good_moves(filled, &mut other));
+    let wanted = Answer {
+        number: expected.number,
+        line: expected.line,
+        length: again.length,
+    };
+    let stayed = (expected.number == 0) | same_sheets(&sheet, &blank);
+    expect(answer, wanted, stayed, text, tally);
+    expect(again, wanted, same_sheets(&sheet, &other), text, tally);
 }
 
 fn count(number: usize, blanks: usize, tally: &mut Tally) {
@@ -126,14 +146,26 @@ fn written(answer: Written) -> Answer {
     }
 }
 
+// The count of lines stands as the length.
+fn listed(answer: Listed) -> Answer {
+    match answer {
+        Listed::Lines(length) => Answer {
+            number: 0,
+            line: 0,
+            length,
+        },
+        Listed::Refused(r) => numbered(r),
+    }
+}
+
 fn numbered(refusal: Refusal) -> Answer {
     let r = refusal.numbers();
     refused(r.number as usize, r.line)
 }
 
-fn same_plates(a: &Plate, b: &Plate) -> bool {
+fn same_sheets(a: &Sheet, b: &Sheet) -> bool {
     let mut i: usize = 0;
-    while i < 512 {
+    while i < 2048 {
         if a[i] != b[i] {
             return false;
         }
@@ -142,10 +174,10 @@ fn same_plates(a: &Plate, b: &Plate) -> bool {
     true
 }
 
-// Counts an answer that is not the table's, or plates that differ. The first few are shown, with their text.
-fn expect(answer: Answer, expected: Answer, plates: bool, text: &[u8], tally: &mut Tally) {
+// Counts an answer that is not the table's, or sheets that differ. The first few are shown, with their text.
+fn expect(answer: Answer, expected: Answer, sheets: bool, text: &[u8], tally: &mut Tally) {
     let refusals = (answer.number == expected.number) & (answer.line == expected.line);
-    if refusals & plates & (answer.length == expected.length) {
+    if refusals & sheets & (answer.length == expected.length) {
         return;
     }
     add(tally, MISMATCHES);

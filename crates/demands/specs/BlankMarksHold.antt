@@ -1,6 +1,6 @@
 -- Blank marks make no difference: texts that differ only in them have the same examination and the same arena (chart/specs/BlankLaws.antt),
 -- and every job's answer is computed from these two. What a job leaves in a row is settled by its answer, so it is the same too.
-use Prim.Native.Nat.{ℕ}
+use Prim.Native.Nat.{ℕ, _*_}
 use mathlib.Core.Path.{_≡_, refl, sym, ap, ap₂, _∙_, subst}
 use mathlib.Core.Bool.{cond}
 use mathlib.Core.List.{List, _++_}
@@ -31,6 +31,9 @@ use Rattle.weighing.specs.declared.Weighed.{Weighed}
 use Rattle.weighing.specs.declared.Weighed.the-variants.{Done, Refused as WeighingRefused}
 use Rattle.comparing.specs.Comparing.{comparedForm, comparedBy, compared}
 use Rattle.comparing.specs.declared.Compared.the-variants.{Refused as ComparingRefused}
+use Rattle.listing.specs.Listing.{goodSheet, listedBy, listed, ListedIs}
+use Rattle.listing.specs.declared.Listed.{Listed}
+use Rattle.listing.specs.declared.Listed.the-variants.{Lines, Refused as ListingRefused}
 use Rattle.run.specs.Running.{startedForm, startedBy, started, reportedForm, reportedBy, reported}
 use Rattle.run.specs.declared.Run.{Run}
 use Rattle.response.specs.Response.{responseBy, response, Responded}
@@ -125,6 +128,17 @@ module _ (text other : List ℕ) (same : SameChart text other) where
       go (Taken chart) =
           ap (λ (x : Arena). cond (leb (chart .positions) (length choices)) (comparedForm x plate choices (formOf (chart .positions) plate)) (ComparingRefused Short)) (same .arena)
 
+  listing-same : {out out₁ out₂ : List ℕ} {r s : Listed} → ListedIs text out out₁ r → ListedIs other out out₂ s → (r ≡ s) × (out₁ ≡ out₂)
+  unfolding listed
+  listing-same {out} {out₁} {out₂} {r} {s} a b = (answers, go r refl)
+    where
+      answers : r ≡ s
+      answers = a .answer ∙ both (λ e x. listedBy e x (length out)) ∙ sym (b .answer)
+
+      go : (x : Listed) → r ≡ x → out₁ ≡ out₂
+      go (Lines k) e = a .taken k e ∙ ap (λ (x : Arena). goodSheet x ++ drop (k * 12) out) (same .arena) ∙ sym (b .taken k (sym answers ∙ e))
+      go (ListingRefused x) e = a .refused x e ∙ sym (b .refused x (sym answers ∙ e))
+
   start-same : (plate : List ℕ) (position : ℕ) → started text plate position ≡ started other plate position
   unfolding started startedBy
   start-same plate position = either (startedBy text plate position) (startedBy other plate position) go
@@ -159,6 +173,7 @@ blank-marks text other d =
         checking = checking-same text other same;
         weighing = weighing-same text other same;
         comparing = λ a b. a .answer ∙ comparing-same text other same _ _ ∙ sym (b .answer);
+        listing = listing-same text other same;
         start = start-same text other same;
         report = report-same text other same;
         program = program-same text other same;

@@ -36,6 +36,10 @@ use Rattle.checking.specs.declared.Checked.the-variants.{Refused as CheckingRef
 use Rattle.weighing.specs.Weighing.{WeighedIs}
 use Rattle.weighing.specs.declared.Weighed.{Weighed}
 use Rattle.weighing.specs.declared.Weighed.the-variants.{Refused as WeighingRefused}
+use Rattle.listing.specs.Sheet.{SheetOf}
+use Rattle.listing.specs.Listing.{ListedIs}
+use Rattle.listing.specs.declared.Listed.{Listed}
+use Rattle.listing.specs.declared.Listed.the-variants.{Refused as ListingRefused}
 use Rattle.comparing.specs.Compared.{ComparedIs}
 use Rattle.comparing.specs.declared.Compared.{Compared}
 use Rattle.comparing.specs.declared.Compared.the-variants.{Refused as ComparingRefused}
@@ -77,6 +81,10 @@ count text = size (arenaOf text)
 -- 10: "a lent buffer or row too short"
 abbrev pub TooShort : ℕ → List ℕ → Type 0
 TooShort needed lent = length lent < needed
+
+-- 10 for the sheet of good moves, which "looks only at" its lines (document 02, order 2)
+abbrev pub ShorterThanSheet : (text lent : List ℕ) → Type 0
+ShorterThanSheet text lent = (sheet : List ℕ) × SheetOf (arenaOf text) sheet × TooShort (length sheet) lent
 
 -- 11: "plate's length not 22 times (n+1), or a line not of the plate's form", with the lowest bad line
 abbrev pub malformed : (text plate : List ℕ) → Row
@@ -126,6 +134,9 @@ comparingRows text plate choices =
     ∷ faulty text plate
     ∷ []
 
+abbrev pub listingRows : (text out : List ℕ) → List Row
+listingRows text out = misdrawn text ∷ only Short (ShorterThanSheet text out) ∷ []
+
 -- 13: "a position from n up"
 abbrev pub startRows : (text plate : List ℕ) → ℕ → List Row
 startRows text plate position = misdrawn text ∷ malformed text plate ∷ only Position (count text ≤ position) ∷ faulty text plate ∷ []
@@ -160,6 +171,7 @@ pub record Demand1 : Type 0 where
   pub weighing : {text choices worths worths′ : List ℕ} {r : Weighed} → WeighedIs text choices worths worths′ r
       → Exact r WeighingRefused (weighingRows text choices worths) (worths′ ≡ worths)
   pub comparing : {text plate choices : List ℕ} {r : Compared} → ComparedIs text plate choices r → Exact r ComparingRefused (comparingRows text plate choices) (Unit {0})
+  pub listing : {text out out′ : List ℕ} {r : Listed} → ListedIs text out out′ r → Exact r ListingRefused (listingRows text out) (out′ ≡ out)
   pub start : {text plate : List ℕ} {position : ℕ} {r : Started} → r ≡ started text plate position → Exact r StartRefused (startRows text plate position) (Unit {0})
   -- "the run comes back unchanged"
   pub report : {run : Run} {text plate : List ℕ} {to : ℕ} {r : Reported} → r ≡ reported run text plate to

@@ -22,7 +22,7 @@ use Rattle.refusal.specs.declared.Refusal.the-variants.{Chart as OfChart, Plate
 use Rattle.chart.specs.Meaning.{arenaOf}
 use Rattle.chart.specs.Examined.{examined}
 use Rattle.chart.specs.Exact.{refused-exactly, accepted-exactly}
-use Rattle.chart.specs.Accepted.{accepted-size}
+use Rattle.chart.specs.Accepted.{accepted-size, accepted-chartable}
 use Rattle.chart.specs.Refusals.{Applies, First}
 use Rattle.chart.specs.declared.Examination.{Examination}
 use Rattle.chart.specs.declared.Examination.the-variants.{Accepted as Taken, Refused as Turned}
@@ -48,6 +48,10 @@ use Rattle.reading.specs.declared.Reading.the-variants.{Refused as ReadingRefus
 use Rattle.weighing.specs.Weighing.{legalRow, weighed, weighedBy}
 use Rattle.weighing.specs.WeighingLaws.{legal-row-sound, legal-row-complete}
 use Rattle.weighing.specs.declared.Weighed.the-variants.{Done, Refused as WeighingRefused}
+use Rattle.listing.specs.Sheet.{SheetOf}
+use Rattle.listing.specs.SheetLaws.{lists-unique, sheet-is, sheet-length}
+use Rattle.listing.specs.Listing.{goodCount, goodSheet, listedRows, listedBy, listed}
+use Rattle.listing.specs.declared.Listed.the-variants.{Refused as ListingRefused}
 use Rattle.comparing.specs.Comparing.{valueNumber, worthNumber, firstDifference, compared}
 use Rattle.comparing.specs.Order.{first-the-chart, then-ten, then-eleven, then-twelve, then-fourteen, then-the-rows}
 use Rattle.comparing.specs.declared.Compared.the-variants.{Agree, Differ, Refused as ComparingRefused}
@@ -64,7 +68,7 @@ use Rattle.run.specs.declared.Started.the-variants.{Refused as StartRefused}
 use Rattle.run.specs.declared.Reported.{Reported}
 use Rattle.run.specs.declared.Answer.{Answer}
 use Rattle.run.specs.declared.Answer.the-variants.{Taken as Went, Refused as ReportRefused}
-use Rattle.demands.specs.Demand1.{Row, RefusedBy, Clear, only, misdrawn, count, malformed, IllegalChoice, faulty, MoveIs, valuingRows, writingRows, readingRows, checkingRows, weighingRows, comparingRows, startRows, reportRows, Exact, Demand1}
+use Rattle.demands.specs.Demand1.{Row, RefusedBy, Clear, only, misdrawn, count, malformed, IllegalChoice, faulty, MoveIs, valuingRows, writingRows, readingRows, checkingRows, weighingRows, comparingRows, ShorterThanSheet, listingRows, startRows, reportRows, Exact, Demand1}
 
 -- a job's answer by its rows, with nothing lent
 abbrev Settled : {A : Type 0} → A → (Refusal → A) → List Row → Type 0
@@ -281,6 +285,29 @@ comparing-settled text plate choices =
         (λ w. let q = sym (first-at _ (λ v. Differ v (f v) (g v)) Agree n 0 (w .0) (w .1)) ∙ e in let z : _≡_ {A = ℕ} 0 1 = cc in omega arith)
         (first-or-none (λ v. eqb (f v) (g v)) n 0)
 
+-- 10 for the sheet of good moves: the test is against the length of the one sheet that there is
+sheet-test : (text out : List ℕ) (chart : Chart) → examined text ≡ Taken chart → Tests (leb (goodCount (arenaOf text) * 12) (length out)) (ShorterThanSheet text out)
+sheet-test text out chart e = (
+  λ b (sheet, is, l).
+      let same = ap length (lists-unique a (a .moves) sheet (goodSheet a) is lines) in
+      omega (arith, leb-true (goodCount a * 12) (length out) b, same, sheet-length a, l),
+  λ b. (goodSheet a, lines, omega (arith, leb-false (goodCount a * 12) (length out) b, sheet-length a)),
+)
+  where
+    a : Arena
+    a = arenaOf text
+
+    lines : SheetOf a (goodSheet a)
+    lines = sheet-is a (accepted-chartable text chart e .well-formed)
+
+listing-settled : (text out : List ℕ) → Settled (listed text (length out)) ListingRefused (listingRows text out)
+unfolding listed listedBy listedRows
+listing-settled text out =
+    chart-row (λ x y e. cc) text (λ r e. rw e)
+    (λ chart e.
+    test-row (λ x y e. cc) (leb (goodCount (arenaOf text) * 12) (length out)) (sheet-test text out chart e) (λ b. rw (e, b))
+    (λ b. no-rows (λ x y e. cc) (λ x q. let z : _≡_ {A = ℕ} 0 1 = cc in omega arith)))
+
 start-settled : (text plate : List ℕ) (position : ℕ) → Settled (started text plate position) StartRefused (startRows text plate position)
 start-settled text plate position =
     let answer = start-exactly text plate position in
@@ -367,6 +394,7 @@ demand-1 =
       checking = λ {text} {plate} e. with-lent e (checking-settled text plate) (λ x q. tt);
       weighing = λ {text} {choices} {worths} is. with-lent (is .answer) (weighing-settled text choices worths) (is .refused);
       comparing = λ {text} {plate} {choices} is. with-lent (is .answer) (comparing-settled text plate choices) (λ x q. tt);
+      listing = λ {text} {out} is. with-lent (is .answer) (listing-settled text out) (is .refused);
       start = λ {text} {plate} {position} e. with-lent e (start-settled text plate position) (λ x q. tt);
       report = λ {run} {text} {plate} {to} e.
           with-lent (ap (λ (r : Reported). r .answer) e) (report-settled run text plate to)

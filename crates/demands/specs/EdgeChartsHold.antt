@@ -6,17 +6,19 @@ use native.Mathlib.Decide.{ℕ-discrete}
 use mathlib.Core.Path.{_≡_, refl, sym, subst}
 use mathlib.Core.Logic.{⊎-elim}
 use mathlib.Core.Bool.{Bool, true, false, _&&_}
-use mathlib.Core.List.{List, [], _∷_, List·Memᴰ, List·Memᴰ·cases-cons, List·Memᴰ·not-nil}
+use mathlib.Core.List.{List, [], _∷_, _++_, List·Memᴰ, List·Memᴰ·cases-cons, List·Memᴰ·not-nil}
 use lib.ListN.{length}
 use lib.Dec.{T, eqb, eqb→eq}
 use Rattle.rows.specs.FirstLine.{firstLineOf}
 use Rattle.rows.specs.Numbers.{numberOf, valueOf}
 use Rattle.search.specs.Below.{someBelow, countBelow}
 use Rattle.search.specs.First.{firstFrom}
-use Rattle.game.specs.Value.{Value, ltV, eqV}
+use Rattle.game.specs.Value.{Value, leV, ltV, eqV}
 use Rattle.game.specs.ValueLaws.{eqV-sound}
 use Rattle.game.specs.MoveTests.{and-left, and-right}
-use Rattle.game.specs.Arena.{Arena, size}
+use Rattle.game.specs.Arena.{Arena, size, meantMove}
+use Rattle.game.specs.Keep.{keep}
+use Rattle.game.specs.GoodMoves.{holdsValue, goodMove, goodMoves}
 use Rattle.game.specs.Worth.{IsValue}
 use Rattle.game.specs.Table.{someMove, everyMove, meantFrom, disturbanceFrom, isPlaced, hasValue, readyAs, ready, begins, place, tableAfter, tableBefore, table, placedValue, placedStep, roundValue, roundStep}
 use Rattle.game.specs.Best.{better, bestIn, bestAs, bestAt}
@@ -38,6 +40,8 @@ use Rattle.demands.specs.EdgeCharts.{Expected, refusal, plate, Edge, ent
 use Rattle.line.specs.Text.{dashText, everText, entryText, fieldsText, lineText}
 use Rattle.line.specs.Joined.{joined}
 use Rattle.plate.specs.Text.{valueEntry, dashEntry, headerLine, positionLine, positionLines, plateText}
+use Rattle.listing.specs.Sheet.{goodLine}
+use Rattle.listing.specs.Listing.{goodCount, goodSheet}
 use Rattle.writing.specs.Writing.{plateOf}
 use Rattle.valuing.specs.ValuedMeansHold.{pair-is}
 
@@ -173,3 +177,8 @@ edge-charts-hold e m = all-hold edgeCharts tt e m
 pub document-plate : plateOf (arenaOf documentChart) ≡ documentPlate
 unfolding documentChart documentPlate plateOf firstLineOf plateText headerLine positionLines positionLine joined lineText fieldsText valueEntry dashEntry entryText dashText everText numberOf valueOf passes
 document-plate = refl
+
+-- and its good moves: 0 goes to 1, 2 goes to 0 or stays, since a disturbance holds it down, 4 stays
+pub document-sheet : goodSheet (arenaOf documentChart) ≡ goodLine (meantMove 0 1) ++ (goodLine (meantMove 2 0) ++ (goodLine (meantMove 2 2) ++ goodLine (meantMove 4 4)))
+unfolding documentChart goodSheet goodCount goodMoves goodMove holdsValue keep joined lineText fieldsText entryText leV passes
+document-sheet = refl

@@ -5,6 +5,7 @@ pub mod Demand2
 pub mod Journal
 pub mod Demand3
 pub mod BlankMarks
+pub mod GoodMoves
 pub mod EdgeCharts
 pub mod SanctionedLaws
 pub mod Demand1Holds
@@ -12,4 +13,5 @@ pub mod ReadBack
 pub mod Printed
 pub mod Demand3Holds
 pub mod BlankMarksHold
+pub mod GoodMovesHold
 pub mod EdgeChartsHold

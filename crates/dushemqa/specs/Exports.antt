@@ -12,12 +12,15 @@ use Rattle.writing.specs.Writing.{WrittenIs}
 use Rattle.writing.specs.declared.Written.{Written}
 use Rattle.comparing.specs.Compared.{ComparedIs}
 use Rattle.comparing.specs.declared.Compared.{Compared}
+use Rattle.listing.specs.Listing.{ListedIs}
+use Rattle.listing.specs.declared.Listed.{Listed}
 use Rattle.refusal.specs.declared.Numbers.{Numbers}
-use Rattle.answers.specs.Numbers.{comparedNumbers, readingNumbers, valuedNumbers, weighedNumbers, writtenNumbers}
+use Rattle.answers.specs.Numbers.{comparedNumbers, listedNumbers, readingNumbers, valuedNumbers, weighedNumbers, writtenNumbers}
 use Rattle.answers.specs.declared.ValuedNumbers.{ValuedNumbers}
 use Rattle.answers.specs.declared.WrittenNumbers.{WrittenNumbers}
 use Rattle.answers.specs.declared.ReadingNumbers.{ReadingNumbers}
 use Rattle.answers.specs.declared.ComparedNumbers.{ComparedNumbers}
+use Rattle.answers.specs.declared.ListedNumbers.{ListedNumbers}
 
 pub record ValuedAs (text values values′ choices choices′ steps steps′ : List ℕ) (r : ValuedNumbers) : Type 0 where
   pub answer : Valued
@@ -43,3 +46,8 @@ pub record ComparedAs (text plate choices : List ℕ) (r : ComparedNumbers) : Ty
   pub answer : Compared
   pub job : ComparedIs text plate choices answer
   pub numbers : r ≡ comparedNumbers answer
+
+pub record ListedAs (text out out′ : List ℕ) (r : ListedNumbers) : Type 0 where
+  pub answer : Listed
+  pub job : ListedIs text out out′ answer
+  pub numbers : r ≡ listedNumbers answer

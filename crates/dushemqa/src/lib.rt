@@ -4,14 +4,16 @@ ghost use mathlib.Core.Path.{_≡_};
 ghost use Rattle.checking.specs.Checking.{checked};
 ghost use Rattle.run.specs.Running.{reported, started};
 ghost use Rattle.answers.specs.Numbers.{checkedNumbers, reportedNumbers, startedNumbers};
-ghost use Rattle.dushemqa.specs.Exports.{ComparedAs, ReadAs, ValuedAs, WeighedAs, WrittenAs};
+ghost use Rattle.dushemqa.specs.Exports.{ComparedAs, ListedAs, ReadAs, ValuedAs, WeighedAs, WrittenAs};
 use answers::ComparedNumbers;
+use answers::ListedNumbers;
 use answers::ReadingNumbers;
 use answers::Step;
 use answers::ValuedNumbers;
 use answers::WrittenNumbers;
 use answers::checked_numbers;
 use answers::compared_numbers;
+use answers::listed_numbers;
 use answers::reading_numbers;
 use answers::reported_numbers;
 use answers::started_numbers;
@@ -20,6 +22,7 @@ use answers::weighed_numbers;
 use answers::written_numbers;
 use checking::check;
 use comparing::compare;
+use listing::list_good_moves;
 use reading::read_plate;
 use refusal::Numbers;
 use run::Run;
@@ -84,6 +87,14 @@ pub extern "C" fn dushemqa_compare(text: &[u8], plate: &[u8], choices: &[u16]) -
     ensures { λ r. ⌜ ComparedAs (now (text .entry)) (now (plate .entry)) (now (choices .entry)) r ⌝ }
 {
     compared_numbers(compare(text, plate, choices))
+}
+
+// Listing.
+#[no_mangle]
+pub extern "C" fn dushemqa_good_moves(text: &[u8], sheet: &mut [u8]) -> ListedNumbers
+    ensures { λ r. ⌜ ListedAs (now (text .entry)) (now (sheet .entry)) (now (sheet .exit)) r ⌝ }
+{
+    listed_numbers(list_good_moves(text, sheet))
 }
 
 // Start.

@@ -6,12 +6,15 @@ pub mod Play
 pub mod Worth
 pub mod Rounds
 pub mod Choice
+pub mod Good
 pub mod Certificate
 pub mod FirstLine
+pub mod Keep
 pub mod Restrict
 pub mod Journal
 pub mod Table
 pub mod Best
+pub mod GoodMoves
 pub mod Fault
 pub mod FirstFault
 pub mod Members
@@ -42,6 +45,7 @@ pub mod RoundHolding
 pub mod RoundRuin
 pub mod RoundCertificate
 pub mod RoundValues
+pub mod GoodLaws
 pub mod Resilience
 pub mod ConditionTests
 pub mod FaultLaws

@@ -1,11 +1,11 @@
 -- The arena in which a row of choices leaves the controller no other move: a meant move of a position of its own stays
 -- only where it is the choice. Everything else stays.
 use Prim.Native.Nat.{ℕ}
-use mathlib.Core.Bool.{Bool, true, false, cond, _&&_, _||_, not}
-use mathlib.Core.List.{List, [], _∷_}
+use mathlib.Core.Bool.{Bool, true, false, _&&_, _||_, not}
 use lib.Dec.{eqb}
 use Rattle.game.specs.Value.{Value, fin, eqV}
 use Rattle.game.specs.Arena.{Arena, Move, Owner, controller, environment, ownerAt}
+use Rattle.game.specs.Keep.{keep}
 
 abbrev pub isController : Owner → Bool
 isController controller = true
@@ -15,10 +15,6 @@ isController environment = false
 unfoldable pub stays : Arena → (ℕ → Value) → Move → Bool
 stays a choice m = not (eqb (m .cost) 0 && isController (ownerAt a (m .from))) || eqV (choice (m .from)) (fin (m .to))
 
--- the moves that stay, in their order
-unfoldable pub keep : (Move → Bool) → List Move → List Move
-keep p [] = []
-keep p (m ∷ ms) = cond (p m) (m ∷ keep p ms) (keep p ms)
-
+-- the arena with the moves that stay, in their order
 unfoldable pub restricted : Arena → (ℕ → Value) → Arena
 restricted a choice = record { positions = a .positions; moves = keep (stays a choice) (a .moves) }

@@ -2,55 +2,20 @@
 -- in the whole arena, safe or unsafe alike and at the same cost. So a value there is that controller's worth here.
 use Prim.Native.Nat.{ℕ, suc}
 use mathlib.Core.Path.{_≡_, refl, sym, ap, subst, _∙_}
-use mathlib.Core.Logic.{_⊎_, inl, inr, ⊎-map, _↔_}
-use mathlib.Core.Bool.{Bool, true, false, cond, _||_, not}
-use mathlib.Core.List.{List, [], _∷_, List·Memᴰ, List·Memᴰ·head, List·Memᴰ·tail, List·Memᴰ·not-nil, List·Memᴰ·cases-cons}
+use mathlib.Core.Logic.{_⊎_, ⊎-map, _↔_}
+use mathlib.Core.Bool.{_||_, not}
+use mathlib.Core.List.{List·Memᴰ}
 use lib.Dec.{T, eqb·suc-zero}
 use Rattle.game.specs.Value.{Value, fin, ever, eqV}
 use Rattle.game.specs.Arena.{Arena, Move, Owner, controller, environment, ownerAt, meantMove, disturbanceMove, Meant, Disturbance, WellFormed}
 use Rattle.game.specs.Play.{Trail, still, meant, disturbed, last, cost, disturbanceCost, Controller, Allows, Play, Unsafe, LegalAs, Legal, positional, targetOf}
 use Rattle.game.specs.Worth.{UnsafePlay, WorthIs, AtMost, IsValue}
-use Rattle.game.specs.Restrict.{stays, keep, restricted, isController}
+use Rattle.game.specs.Keep.{kept, passed}
+use Rattle.game.specs.Restrict.{stays, restricted, isController}
 use Rattle.game.specs.ValueLaws.{eqV-sound, fin-injective}
 use Rattle.game.specs.Bounds.{AtLeast, worth-is-both-bounds, value-is-bounds}
 use Rattle.game.specs.Memory.{some-controller}
 use Rattle.game.specs.PlayLaws.{disturbance-costs-one, target-is-named}
-
--- the moves kept are those of the row that pass the test
-abbrev pub Passes : (Move → Bool) → Move → List Move → Type 0
-Passes p m ms = List·Memᴰ m ms × T (p m)
-
-pub kept : (p : Move → Bool) (ms : List Move) (m : Move) → List·Memᴰ m (keep p ms) → Passes p m ms
-unfolding keep
-kept p [] m i = absurd (List·Memᴰ·not-nil i)
-kept p (x ∷ xs) m i = split (p x) refl (kept p xs m) i
-  where
-    first : p x ≡ true → (List·Memᴰ m (keep p xs) → Passes p m xs) → (m ≡ x) ⊎ List·Memᴰ m (keep p xs) → Passes p m (x ∷ xs)
-    first e rest (inl q) = (List·Memᴰ·head q, subst T (sym (ap p q ∙ e)) tt)
-    first e rest (inr j) = (List·Memᴰ·tail (rest j .0), rest j .1)
-
-    split :
-        (b : Bool) → p x ≡ b
-        → (List·Memᴰ m (keep p xs) → Passes p m xs)
-        → List·Memᴰ m (cond b (x ∷ keep p xs) (keep p xs))
-        → Passes p m (x ∷ xs)
-    split true e rest i = first e rest (List·Memᴰ·cases-cons i)
-    split false e rest i = (List·Memᴰ·tail (rest i .0), rest i .1)
-
-pub passed : (p : Move → Bool) (ms : List Move) (m : Move) → List·Memᴰ m ms → T (p m) → List·Memᴰ m (keep p ms)
-unfolding keep
-passed p [] m i h = absurd (List·Memᴰ·not-nil i)
-passed p (x ∷ xs) m i h = split (p x) refl (λ j. passed p xs m j h) (List·Memᴰ·cases-cons i)
-  where
-    split :
-        (b : Bool) → p x ≡ b
-        → (List·Memᴰ m xs → List·Memᴰ m (keep p xs))
-        → (m ≡ x) ⊎ List·Memᴰ m xs
-        → List·Memᴰ m (cond b (x ∷ keep p xs) (keep p xs))
-    split true e rest (inl q) = List·Memᴰ·head q
-    split true e rest (inr j) = List·Memᴰ·tail (rest j)
-    split false e rest (inl q) = absurd (subst T (ap p q ∙ e) h)
-    split false e rest (inr j) = rest j
 
 module _ (a : Arena) (choice : ℕ → Value) where
   -- A meant move stays where it is the choice or the position isn't the controller's; a disturbance stays.

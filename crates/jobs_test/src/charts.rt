@@ -65,7 +65,7 @@ fn part(name: &[u8], text: &[u8], size: usize) {
 }
 
 // A header with these counts, n positions and 4,608 - n moves, up to 8 from each.
-fn fill(text: &mut [u8], n: usize, m: usize) {
+pub fn fill(text: &mut [u8], n: usize, m: usize) {
     put_line(text, 0, b'H', n, m);
     let mut i = 1;
     while i < 4609 {

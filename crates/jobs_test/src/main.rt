@@ -1,6 +1,6 @@
 // Asks the jobs about charts, plates, steps and rows of choices, good and bad, and writes what each answers and what the case is.
 // `stdin` has the cases, `stdout` what document 01 says of each. The first letter of a case's name is its job: `E` examines a chart, `C`
-// is Checking, `R` Reading, `W` the program's answer, `S` a step of a run and `D` Comparing.
+// is Checking, `R` Reading, `W` the program's answer, `S` a step of a run, `D` Comparing and `G` Listing.
 ghost use Rattle.cases.specs.CaseLaws.{Ordered};
 ghost use lib.ListN.{length};
 use cases::Case;
@@ -11,6 +11,7 @@ use run::Run;
 mod charts;
 mod plates;
 mod runs;
+mod sheets;
 mod writer;
 
 // Where the next case begins, and the run that it goes on with.
@@ -27,6 +28,7 @@ fn main() {
     charts::longest();
     charts::rows();
     plates::rows();
+    sheets::longest();
 }
 
 // The cases of the input, of which there are fewer than 600.
@@ -70,7 +72,7 @@ fn show_case(input: &[u8], c: Case, run: Run) -> Next
     }
 }
 
-// The answer and the name; a plate stands under its name. Answers the run after the case.
+// The answer and the name; a plate or a sheet stands under its name. Answers the run after the case.
 fn show(name: &[u8], chart: &[u8], plate: &[u8], words: &[u8], run: Run) -> Run {
     if name.len() == 0 {
         return run;
@@ -79,6 +81,10 @@ fn show(name: &[u8], chart: &[u8], plate: &[u8], words: &[u8], run: Run) -> Run 
     if job == b'W' {
         writer::name(&name[1..]);
         charts::respond(chart);
+        return run;
+    }
+    if job == b'G' {
+        sheets::list(chart, words, &name[1..]);
         return run;
     }
     let after = answer(job, chart, plate, words, run);

@@ -31,6 +31,12 @@ module _ {A : Type 0} where
           let r = before (omega arith) in
           (r .0 ++ f w, ap (λ (x : List A). x ++ f w) (r .1) ∙ simp append-assoc)
 
+  -- the first part in front of the others
+  pub joined-front : (f : ℕ → List A) (count : ℕ) → joined f (suc count) ≡ f 0 ++ joined (λ k. f (suc k)) count
+  unfolding joined
+  joined-front f zero = sym (append-nil (f 0))
+  joined-front f (suc k) = ap (λ (x : List A). x ++ f (suc k)) (joined-front f k) ∙ append-assoc (f 0) (joined (λ j. f (suc j)) k) (f (suc k))
+
   -- parts that stand in a text one after the other
   pub joined-stands : (f : ℕ → List A) (size at : ℕ) (text : List A) (count : ℕ) →
       ((k : ℕ) → k < count → drop (at + k * size) text ≡ f k ++ drop (at + suc k * size) text) → drop at text ≡ joined f count ++ drop (at + count * size) text

@@ -6,6 +6,7 @@ use crate::definition::solve;
 use crate::definition::target;
 use crate::definition::weigh_choices;
 use crate::generate::below;
+use crate::listed::compare_sheets;
 use crate::sheet::CHOICE;
 use crate::sheet::COUNTS;
 use crate::sheet::Chart;
@@ -40,7 +41,7 @@ use weighing::weigh_chart;
 use writing::Written;
 
 // What was counted, in the order in which it is written. Plates that were refused are counted by the condition.
-pub type Tally = [usize; 15];
+pub type Tally = [usize; 18];
 
 const CHARTS: usize = 0;
 
@@ -56,22 +57,28 @@ const CONTROLLERS: usize = 6;
 
 const ACCEPTED: usize = 7;
 
-const MISMATCHES: usize = 14;
+pub const LINES: usize = 14;
+
+pub const OPTIMAL: usize = 15;
+
+pub const OTHERS: usize = 16;
+
+const MISMATCHES: usize = 17;
 
 // What lent rows are filled with.
 const FILLED: usize = 4660;
 
-fn add(tally: &mut Tally, k: usize, x: usize) {
-    tally[k % 15] = tally[k % 15] % 1000000000 + x % 1000000000;
+pub fn add(tally: &mut Tally, k: usize, x: usize) {
+    tally[k % 18] = tally[k % 18] % 1000000000 + x % 1000000000;
 }
 
 // Counts a comparison that failed, and shows its chart; only the first few are shown.
-fn expect(ok: bool, name: &[u8], text: &[u8], tally: &mut Tally) {
+pub fn expect(ok: bool, name: &[u8], text: &[u8], tally: &mut Tally) {
     if ok {
         return;
     }
     add(tally, MISMATCHES, 1);
-    if tally[14] < 9 {
+    if tally[17] < 9 {
         io::write_all(1, name);
         io::write_all(1, b": not by the definitions\n");
         io::write_all(1, text);
@@ -111,7 +118,7 @@ fn same_rows(
     same_row(table, STEP, n, steps)
 }
 
-fn same_pages(a: &Page, b: &Page) -> bool {
+pub fn same_pages(a: &Page, b: &Page) -> bool {
     let mut i: usize = 0;
     while i < 65536 {
         if a[i] != b[i] {
@@ -165,6 +172,7 @@ fn compare_jobs(chart: &Chart, table: &Table, text: &[u8], seed: &mut usize, tal
     compare_check(chart, table, text, tally);
     change_plates(chart, table, text, turns_of(positions(chart)), seed, tally);
     weigh_controllers(chart, table, text, seed, tally);
+    compare_sheets(chart, table, text, tally);
 }
 
 // Valuing: three rows and the rounds.
@@ -360,7 +368,7 @@ fn weigh_controllers(
 }
 
 // How many choices there are at a position, one where none is made.
-fn ways(chart: &Chart, v: usize) -> usize {
+pub fn ways(chart: &Chart, v: usize) -> usize {
     if v < positions(chart) {
         if owner(chart, v) != LANE {
             return cell(chart, COUNTS, MEANT + v % 512);
@@ -407,7 +415,7 @@ fn choose_drawn(chart: &Chart, table: &mut Table, row: &mut [u16; 512], seed: &m
 }
 
 // Chooses v's i-th meant target.
-fn choose(chart: &Chart, table: &mut Table, row: &mut [u16; 512], v: usize, i: usize) {
+pub fn choose(chart: &Chart, table: &mut Table, row: &mut [u16; 512], v: usize, i: usize) {
     let x = if owner(chart, v) == LANE {
         NONE
     } else {
@@ -462,7 +470,7 @@ fn compare_rows(
 }
 
 // The first of n positions whose value and worth differ, n if none does.
-fn first_difference(table: &Table, n: usize) -> usize {
+pub fn first_difference(table: &Table, n: usize) -> usize {
     let mut v = 0;
     while v < n {
         if get(table, VALUE, v) != get(table, WORTH, v) {

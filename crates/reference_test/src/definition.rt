@@ -308,7 +308,7 @@ pub fn sum_up(chart: &Chart, table: &mut Table) {
 }
 
 // How many of the first n entries of a column are x.
-fn count(table: &Table, column: usize, n: usize, x: usize) -> usize {
+pub fn count(table: &Table, column: usize, n: usize, x: usize) -> usize {
     let mut found = 0;
     let mut v = 0;
     while v < n {

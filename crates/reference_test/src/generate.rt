@@ -142,6 +142,7 @@ fn shape_of(kind: usize, size: usize, lanes: usize, dangers: usize) -> Shape {
         5 => [few + 20, 5, 0, lanes, dangers / 4, 0],
         6 => [few + 20, 6, 0, lanes, dangers / 10, few % 4 + 1],
         7 => [512, 8, 1, lanes, dangers / 10, 0],
+        9 => [3, 6, 0, lanes, dangers, 0],
         _ => [512, 8, 0, lanes / 4, 0, few % 8 + 1],
     }
 }

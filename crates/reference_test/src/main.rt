@@ -12,18 +12,20 @@ mod checker;
 mod compare;
 mod definition;
 mod generate;
+mod listed;
 mod sheet;
 mod text;
 
 fn main() {
     io::write_all(
         1,
-        b"charts, positions, moves, rounds, highest value, checksum; controllers weighed and compared; plates accepted and refused by conditions 1 to 6; mismatches\n",
+        b"charts, positions, moves, rounds, highest value, checksum; controllers weighed and compared; plates accepted and refused by conditions 1 to 6; lines of sheets, optimal and other controllers held against them; mismatches\n",
     );
     some(b"every chart of 1 position", 0, 6, 0);
     some(b"every chart of 2 positions", 1, 900, 0);
     some(b"512 positions, disturbances downward", 2, 1, 0);
     some(b"512 positions, lanes downward", 3, 1, 0);
+    some(b"3 positions", 9, 1000, 0);
     some(b"3 to 8 positions", 4, 1000, 0);
     some(b"20 to 59 positions", 5, 60, 0);
     some(b"20 to 59 positions, targets near", 6, 60, 0);
@@ -40,7 +42,7 @@ fn main() {
 
 // Charts of a kind, in which so many of a hundred marks 0 are blank.
 fn some(name: &[u8], kind: usize, charts: usize, share: usize) {
-    let mut tally = [0usize; 15];
+    let mut tally = [0usize; 18];
     let mut seed = 1;
     let mut blanks = [1, 0];
     let mut i = 0;
@@ -70,7 +72,7 @@ fn compare_built(
 
 fn report(tally: &Tally) {
     let mut k: usize = 0;
-    while k < 15 {
+    while k < 18 {
         io::print_decimal(1, tally[k] as u64);
         io::write_all(1, b" ");
         k += 1;

@@ -44,9 +44,10 @@ fn put_field(page: &mut Page, at: usize, x: usize, word: &[u8; 5]) {
     }
 }
 
-fn chart_line(page: &mut Page, chart: &Chart, i: usize) {
-    let at = i % 5000 * 12;
-    page[at] = (cell(chart, LETTER, i) % 256) as u8;
+// The fields of a chart's line, with a letter, on a line of the page.
+pub fn put_line(page: &mut Page, k: usize, letter: usize, chart: &Chart, i: usize) {
+    let at = k % 5000 * 12;
+    page[at] = (letter % 256) as u8;
     put_field(page, at + 1, cell(chart, LEFT, i), b"    -");
     put_field(page, at + 6, cell(chart, RIGHT, i), b"     ");
     page[at + 11] = b'\n';
@@ -55,16 +56,20 @@ fn chart_line(page: &mut Page, chart: &Chart, i: usize) {
 fn chart_lines(page: &mut Page, chart: &Chart, lines: usize) {
     let mut i = 0;
     while i < lines {
-        chart_line(page, chart, i);
+        put_line(page, i, cell(chart, LETTER, i), chart, i);
         i += 1;
     }
 }
 
+pub fn lines_of(chart: &Chart) -> usize {
+    positions(chart) % 1024 + cell(chart, RIGHT, 0) % 8192 + 1
+}
+
 // Writes a chart's text, and answers its length.
 pub fn write_chart(page: &mut Page, chart: &Chart) -> usize {
-    let lines = positions(chart) % 1024 + cell(chart, RIGHT, 0) % 8192 + 1;
+    let lines = lines_of(chart);
     chart_lines(page, chart, lines);
-    lines * 12
+    lines % 16384 * 12
 }
 
 fn plate_line(page: &mut Page, table: &Table, v: usize) {

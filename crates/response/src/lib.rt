@@ -1,14 +1,9 @@
 // What the program writes for a chart: its plate, or the line of its refusal.
 ghost use Prim.Native.Nat.{_≤_};
-ghost use mathlib.Core.Path.{_≡_};
-ghost use mathlib.Core.List.{[], _∷_, _++_};
-ghost use lib.ListN.{length, drop};
-ghost use Rattle.line.specs.Text.{lineText};
-ghost use Rattle.line.specs.declared.Entry.the-variants.{Number};
+ghost use lib.ListN.{length};
 ghost use Rattle.response.specs.Response.{Responded};
-use line::Entry;
-use line::write_entry;
 use rows::Chart;
+use sheet_lines::write_line;
 use writing::Written;
 use writing::write_plate;
 
@@ -21,19 +16,8 @@ pub fn respond(text: &[u8], out: &mut [u8]) -> usize
         Written::Length(k) => k,
         Written::Refused(r) => {
             let numbers = r.numbers();
-            write_refusal(numbers.number, (numbers.line % 100000) as u32, out);
+            write_line(b'R', numbers.number, (numbers.line % 100000) as u32, out);
             Chart::LINE
         }
     }
-}
-
-// The line of a refusal into the first 12 bytes of the buffer; the others stay.
-fn write_refusal(number: u32, line: u32, out: &mut [u8])
-    requires { ⌜ 12 ≤ length (now out) ⌝ }
-    ensures { λ _. ⌜ now (out .exit) ≡ lineText 82 (Number number ∷ Number line ∷ []) ++ drop 12 (now (out .entry)) ⌝ }
-{
-    out[0] = b'R';
-    write_entry(Entry::Number(number), out, 1);
-    write_entry(Entry::Number(line), out, 6);
-    out[11] = b'\n';
 }

@@ -1,13 +1,14 @@
 -- What a row of choices leaves of the moves, as numbers: which moves are chosen or stay, and the moves that stay as rows.
-use Prim.Native.Nat.{ℕ, zero, suc, _+_}
+use Prim.Native.Nat.{ℕ, _+_}
 use mathlib.Core.Path.{_≡_}
 use mathlib.Core.Bool.{Bool, cond, not, _&&_, _||_}
-use mathlib.Core.List.{List, [], _∷_, _++_}
+use mathlib.Core.List.{List}
 use lib.ListN.{length, getD}
 use lib.Dec.{eqb}
 use Rattle.search.specs.Below.{bit}
-use Rattle.rows.specs.Rows.{RowIs}
+use Rattle.search.specs.Passing.{passing}
 use Rattle.rows.specs.Filling.{setIf}
+use Rattle.rows.specs.Copies.{CopyOf}
 
 -- the i-th move is a meant move into the choice of the position that it leaves
 unfoldable pub isChosen : (costs froms tos choices : List ℕ) → ℕ → Bool
@@ -21,15 +22,6 @@ isLegal owners choices flags v = cond (eqb (getD owners v 0) 0) (eqb (getD flags
 unfoldable pub moveStays : (owners costs froms tos choices : List ℕ) → ℕ → Bool
 moveStays owners costs froms tos choices i =
     not (eqb (getD costs i 0) 0 && eqb (getD owners (getD froms i 0) 0) 0) || eqb (getD choices (getD froms i 0) 0) (getD tos i 0)
-
--- the numbers below i that pass the test, in order
-unfoldable pub passing : (ℕ → Bool) → ℕ → List ℕ
-passing q zero = []
-passing q (suc i) = passing q i ++ cond (q i) (i ∷ []) []
-
--- a row and its copy of the numbers at the places that pass the test
-abbrev pub CopyOf : (ℕ → Bool) → ℕ → List ℕ → List ℕ → Type 0
-CopyOf q i row copy = RowIs copy (length (passing q i)) (λ j. getD row (getD (passing q i) j 0) 0)
 
 -- the first i moves, of which `count` stay, copied
 pub record Copied (owners costs froms tos choices : List ℕ) (i count : ℕ) (costs′ froms′ tos′ : List ℕ) : Type 0 where

@@ -4,6 +4,7 @@ pub mod Rows
 pub mod FirstLine
 pub mod NumberLaws
 pub mod Filling
+pub mod Copies
 pub mod Notes
 pub mod RowsLaws
 pub mod FirstLineLaws

@@ -37,6 +37,13 @@ less-numbers (fin j) ever f g = lt-ltb j 65535 f
 less-numbers ever (fin k) f g = le-ltb 65535 k (omega arith)
 less-numbers ever ever f g = refl
 
+pub at-most-numbers : (x y : Value) → Fits x → Fits y → leb (numberOf x) (numberOf y) ≡ leV x y
+unfolding numberOf leV
+at-most-numbers (fin j) (fin k) f g = refl
+at-most-numbers (fin j) ever f g = le-leb j 65535 (omega arith)
+at-most-numbers ever (fin k) f g = lt-leb 65535 k g
+at-most-numbers ever ever f g = refl
+
 pub same-numbers : (x y : Value) → Fits x → Fits y → eqb (numberOf x) (numberOf y) ≡ eqV x y
 unfolding numberOf eqV
 same-numbers (fin j) (fin k) f g = refl

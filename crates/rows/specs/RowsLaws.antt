@@ -9,11 +9,12 @@ use lib.ListN.{length, getD}
 use lib.Dec.{eqb}
 use borrow.Author.Tests.{eq-eqb, ne-eqb}
 use Rattle.search.specs.Below.{someBelow, some-front}
-use Rattle.game.specs.Arena.{Arena, Move, moveAt, noMove}
+use Rattle.game.specs.Arena.{Arena, Move, Owner, controller, environment, ownerAt, moveAt, noMove}
+use Rattle.game.specs.Restrict.{isController}
 use Rattle.game.specs.Table.{someMove}
 use Rattle.game.specs.Members.{at-member}
 use Rattle.rows.specs.Numbers.{numberAt}
-use Rattle.rows.specs.Rows.{RowsOf, Within}
+use Rattle.rows.specs.Rows.{ownerNumber, RowsOf, Within}
 use Rattle.rows.specs.Notes.{found}
 
 -- a search over the move lines is the search over the moves
@@ -34,6 +35,14 @@ module _ (a : Arena) (n m : ℕ) (owners marks costs froms tos : List ℕ) (d : 
 
   pub to-inside : (j : ℕ) → j < m → moveAt a j .to < n
   to-inside j l = rw (← d .positions) (d .well .to-position (moveAt a j) (at-member noMove (a .moves) j (rw (d .moves) l)))
+
+  -- who steers, as a number and as a test
+  pub owner-test : (v : ℕ) → v < n → eqb (getD owners v 0) 0 ≡ isController (ownerAt a v)
+  owner-test v l = rw (d .owner v l) (go (ownerAt a v))
+    where
+      go : (o : Owner) → eqb (ownerNumber o) 0 ≡ isController o
+      go controller = refl
+      go environment = refl
 
   -- the lines that leave v with a property are the moves with it, if the property is false of moves that leave another
   pub lines-of : (v : ℕ) (q : ℕ → Bool) (p : Move → Bool)

@@ -1,26 +1,25 @@
 -- Weighing over rows is weighing in the arena: the copied moves are the restricted arena's, whose values are the worths
 -- (game: `restricted-value-is-worth`), and the code's test of the choices is condition 3.
-use Prim.Native.Nat.{ℕ, zero, suc, _+_, _≤_, _<_}
-use native.Mathlib.Decide.{ℕ-discrete}
+use Prim.Native.Nat.{ℕ, _≤_, _<_}
 use native.Mathlib.Omega.{arith}
-use mathlib.Core.Path.{_≡_, refl, sym, ap, ap₂, subst, _∙_}
+use mathlib.Core.Path.{_≡_, refl, sym, ap, subst, _∙_}
 use mathlib.Core.Bool.{Bool, true, false, cond, not, _&&_, and-true, and-false}
-use mathlib.Core.List.{List, [], _∷_, _++_, map, map-append, append-nil}
-use lib.ListN.{length, getD, take, length-map, length-append, List·getD-append}
-use lib.Seq.{take-suc, take-all, getD-append-seam}
+use mathlib.Core.List.{List}
+use lib.ListN.{length, getD}
 use lib.Dec.{T, eqb, leb}
 use borrow.Author.Tests.{eq-eqb, ne-eqb}
-use Rattle.rows.specs.RowsLaws.{from-inside, to-inside, lines-of}
+use Rattle.rows.specs.RowsLaws.{from-inside, to-inside, owner-test, lines-of}
 use Rattle.rows.specs.Rows.{RowIs, ownerNumber, RowsOf}
 use Rattle.rows.specs.Numbers.{numberOf, valueOf, numberAt, rowValue}
 use Rattle.rows.specs.NumberLaws.{Fits, value-of-number, same-values, ever-number}
 use Rattle.rows.specs.Notes.{Noted}
+use Rattle.rows.specs.Copies.{CopyOf, kept-count, kept-column}
 use Rattle.search.specs.Below.{someBelow, some-same, some-hit, some-none, bit, bit-one}
 use Rattle.game.specs.Value.{Value, fin, eqV}
-use Rattle.game.specs.Arena.{Arena, Move, Owner, controller, environment, WellFormed, size, ownerAt, moveAt, noMove}
+use Rattle.game.specs.Arena.{Arena, Move, Owner, controller, environment, WellFormed, size, ownerAt, moveAt}
 use Rattle.game.specs.Play.{Legal, LegalAt, positional}
 use Rattle.game.specs.Worth.{WorthIs}
-use Rattle.game.specs.Restrict.{isController, stays, keep, restricted}
+use Rattle.game.specs.Restrict.{stays, restricted}
 use Rattle.game.specs.RestrictLaws.{restricted-is-well-formed, restricted-value-is-worth}
 use Rattle.game.specs.RoundValues.{rounds-give-the-values}
 use Rattle.game.specs.Table.{roundValue, meantFrom}
@@ -36,63 +35,12 @@ use Rattle.refusal.specs.declared.Refusal.the-variants.{Chart as OfChart, Short
 use Rattle.chart.specs.declared.Examination.the-variants.{Accepted, Refused}
 use Rattle.solver.specs.Solving.{Solved}
 use Rattle.valuing.specs.ValuingLaws.{round-value-fits}
-use Rattle.restriction.specs.Restriction.{isChosen, isLegal, moveStays, passing, Copied}
-use Rattle.restriction.specs.RestrictionLaws.{passing-length}
+use Rattle.restriction.specs.Restriction.{isChosen, isLegal, moveStays, Copied}
+use Rattle.restriction.specs.RestrictionLaws.{copied-fewer}
 use Rattle.weighing.specs.Weighing.{legalRow, WorthRow, RestrictedSolved, RowsWeighed, weighed, weighedBy, WeighedIs}
 use Rattle.weighing.specs.declared.Weighed.the-variants.{Done, Refused as Turned}
 
 -- The moves that stay
-
-keep-append : (p : Move → Bool) (xs ys : List Move) → keep p (xs ++ ys) ≡ keep p xs ++ keep p ys
-unfolding keep
-keep-append p [] ys = refl
-keep-append p (x ∷ xs) ys = rw (keep-append p xs ys) (go (p x))
-  where
-    go : (b : Bool) → cond b (x ∷ (keep p xs ++ keep p ys)) (keep p xs ++ keep p ys) ≡ cond b (x ∷ keep p xs) (keep p xs) ++ keep p ys
-    go true = refl
-    go false = refl
-
--- the moves that pass a test are those on the lines that pass it
-keep-lines : (p : Move → Bool) (q : ℕ → Bool) (ms : List Move) → ((j : ℕ) → j < length ms → q j ≡ p (getD ms j noMove)) → (i : ℕ) → i ≤ length ms
-    → keep p (take i ms) ≡ map (λ j. getD ms j noMove) (passing q i)
-unfolding keep passing
-keep-lines p q ms h zero l = refl
-keep-lines p q ms h (suc i) l =
-    ap (keep p) (take-suc ms i noMove l) ∙ keep-append p (take i ms) (getD ms i noMove ∷ [])
-    ∙ ap₂ _++_ (keep-lines p q ms h i (omega arith)) (rw (← h i l) (go (q i)))
-    ∙ sym (map-append (λ j. getD ms j noMove) (passing q i) (cond (q i) (i ∷ []) []))
-  where
-    go : (b : Bool) → cond b (getD ms i noMove ∷ []) [] ≡ map (λ j. getD ms j noMove) (cond b (i ∷ []) [])
-    go true = refl
-    go false = refl
-
-map-at : {A : Type 0} (f : ℕ → A) (l : List ℕ) (j : ℕ) (x : A) → j < length l → getD (map f l) j x ≡ f (getD l j 0)
-map-at f [] j x l = absurd (omega arith)
-map-at f (y ∷ ys) zero x l = refl
-map-at f (y ∷ ys) (suc j) x l = map-at f ys j x (omega arith)
-
-passing-below : (q : ℕ → Bool) (i j : ℕ) → j < length (passing q i) → getD (passing q i) j 0 < i
-unfolding passing
-passing-below q zero j l = absurd (omega arith)
-passing-below q (suc i) j l = go (q i) l (passing-below q i j)
-  where
-    k : ℕ
-    k = length (passing q i)
-
-    go : (b : Bool) → j < length (passing q i ++ cond b (i ∷ []) []) → (j < k → getD (passing q i) j 0 < i) → getD (passing q i ++ cond b (i ∷ []) []) j 0 < suc i
-    go false l rec = rw (append-nil (passing q i)) (let h = rec (rw (append-nil (passing q i)) at l) in omega arith)
-    go true l rec = here (ℕ-discrete j k)
-      where
-        here : Dec (j ≡ k) → getD (passing q i ++ (i ∷ [])) j 0 < suc i
-        here (yes z) = rw (z, getD-append-seam (passing q i) i [] 0) (omega arith)
-        here (no z) =
-            let f = length-append (passing q i) (i ∷ []) in
-            let m : j < k = omega arith in
-            rw (List·getD-append (passing q i) (i ∷ []) 0 j m) (let h = rec m in omega arith)
-
--- no more moves stay than there are
-pub copied-fewer : {m count : ℕ} {owners costs froms tos choices costs′ froms′ tos′ : List ℕ} → Copied owners costs froms tos choices m count costs′ froms′ tos′ → count ≤ m
-copied-fewer {m} {owners} {costs} {froms} {tos} {choices} copied = let e = copied .counted in let b = passing-length (moveStays owners costs froms tos choices) m in omega arith
 
 module _ (a : Arena) (n m : ℕ) (owners marks costs froms tos choices : List ℕ) (d : RowsOf a n m owners marks costs froms tos) where
   abbrev choice : ℕ → Value
@@ -103,58 +51,35 @@ module _ (a : Arena) (n m : ℕ) (owners marks costs froms tos choices : List �
   unfolding valueOf
   target-choice x t l = rw (← same-values x t, ne-eqb t 65535 (λ e. omega (arith, d .few-positions)))
 
-  owner-test : (v : ℕ) → v < n → eqb (getD owners v 0) 0 ≡ isController (ownerAt a v)
-  owner-test v l = rw (d .owner v l) (go (ownerAt a v))
-    where
-      go : (o : Owner) → eqb (ownerNumber o) 0 ≡ isController o
-      go controller = refl
-      go environment = refl
-
   stays-is : (j : ℕ) → j < m → moveStays owners costs froms tos choices j ≡ stays a choice (moveAt a j)
   unfolding moveStays stays
   stays-is j l =
-      rw (d .cost j l, d .from j l, d .to j l, owner-test (moveAt a j .from) (from-inside a n m owners marks costs froms tos d j l), ← target-choice (getD choices (moveAt a j .from) 0) (moveAt a j .to) (to-inside a n m owners marks costs froms tos d j l))
-
-  kept-moves : restricted a choice .moves ≡ map (λ j. moveAt a j) (passing (moveStays owners costs froms tos choices) m)
-  unfolding restricted
-  kept-moves =
-      let p = d .moves in
-      ap (keep (stays a choice)) (sym (take-all m (a .moves) (omega arith)))
-      ∙ keep-lines (stays a choice) (moveStays owners costs froms tos choices) (a .moves) (λ j l. stays-is j (omega arith)) m (omega arith)
+      rw (d .cost j l, d .from j l, d .to j l, owner-test a n m owners marks costs froms tos d (moveAt a j .from) (from-inside a n m owners marks costs froms tos d j l), ← target-choice (getD choices (moveAt a j .from) 0) (moveAt a j .to) (to-inside a n m owners marks costs froms tos d j l))
 
   module _ (count : ℕ) (costs′ froms′ tos′ : List ℕ) (copied : Copied owners costs froms tos choices m count costs′ froms′ tos′) where
-    q : ℕ → Bool
-    q = moveStays owners costs froms tos choices
-
-    -- the line of the j-th move that stays
-    lineOf : ℕ → ℕ
-    lineOf j = getD (passing q m) j 0
-
-    line-inside : (j : ℕ) → j < count → lineOf j < m
-    unfolding lineOf q
-    line-inside j l = let e = copied .counted in passing-below q m j (omega arith)
-
-    kept-move : (j : ℕ) → j < count → moveAt (restricted a choice) j ≡ moveAt a (lineOf j)
-    unfolding lineOf q
-    kept-move j l =
-        let e = copied .counted in
-        ap (λ (ms : List Move). getD ms j noMove) kept-moves ∙ map-at (λ i. moveAt a i) (passing q m) j noMove (omega arith)
+    -- a column of the moves that stay
+    column : (f : Move → ℕ) (row copy : List ℕ) → RowIs row m (λ i. f (moveAt a i)) → CopyOf (moveStays owners costs froms tos choices) m row copy
+        → RowIs copy count (λ j. f (moveAt (restricted a choice) j))
+    unfolding restricted
+    column f row copy is copy-is j l =
+        let stay = kept-count a m (d .moves) (stays a choice) (moveStays owners costs froms tos choices) stays-is in
+        kept-column a m (d .moves) (stays a choice) (moveStays owners costs froms tos choices) stays-is f row copy is copy-is j (omega (arith, stay, copied .counted))
 
     pub copied-rows : Legal a choice → count ≤ length costs′ → count ≤ length froms′ → count ≤ length tos′ → RowsOf (restricted a choice) n count owners marks costs′ froms′ tos′
-    unfolding restricted lineOf q
+    unfolding restricted
     copied-rows legal lc lf lt =
         let fewer = copied-fewer copied in
         record {
           well = restricted-is-well-formed a choice (d .well) legal;
           positions = d .positions;
-          moves = ap length kept-moves ∙ length-map (passing q m) (λ j. moveAt a j) ∙ sym (copied .counted);
+          moves = kept-count a m (d .moves) (stays a choice) (moveStays owners costs froms tos choices) stays-is ∙ sym (copied .counted);
           few-positions = d .few-positions;
           few-moves = omega (arith, d .few-moves);
           owner = d .owner;
           mark = d .mark;
-          cost = λ j l. copied .cost j (rw (copied .counted) at l) ∙ d .cost (lineOf j) (line-inside j l) ∙ ap (λ (x : Move). x .cost) (sym (kept-move j l));
-          from = λ j l. copied .from j (rw (copied .counted) at l) ∙ d .from (lineOf j) (line-inside j l) ∙ ap (λ (x : Move). x .from) (sym (kept-move j l));
-          to = λ j l. copied .to j (rw (copied .counted) at l) ∙ d .to (lineOf j) (line-inside j l) ∙ ap (λ (x : Move). x .to) (sym (kept-move j l));
+          cost = column (λ x. x .cost) costs costs′ (d .cost) (copied .cost);
+          from = column (λ x. x .from) froms froms′ (d .from) (copied .from);
+          to = column (λ x. x .to) tos tos′ (d .to) (copied .to);
           owners-row = d .owners-row;
           marks-row = d .marks-row;
           costs-row = lc;

@@ -16,11 +16,11 @@ enum-known-r c = search needs
 numbers-requires : tie.Need-numbers-requires
 numbers-requires c κs = search needs
 
-cast-write-refusal : tie.Need-cast-write-refusal
-cast-write-refusal c = search needs
+cast-write-line : tie.Need-cast-write-line
+cast-write-line c = search needs
 
-write-refusal-requires : tie.Need-write-refusal-requires
-write-refusal-requires c κs = search needs
+write-line-requires : tie.Need-write-line-requires
+write-line-requires c κs = search needs
 
 same-length : tie.Need-same-length
 same-length c = search needs
@@ -41,7 +41,7 @@ returns-2 c =
     let known = numbers .before .before in
     let write = known .before .before .before .before in
     let start = write .before .before .before .before in
-    responded-line _ _ (start .pre) _ _ _ (rw (known .r .given .1) at (write .write-plate .ensures)) (rw (numbers .numbers .ensures) at (line .write-refusal .ensures))
+    responded-line _ _ (start .pre) _ _ _ (rw (known .r .given .1) at (write .write-plate .ensures)) (rw (numbers .numbers .ensures) at (line .write-line .ensures))
 
 pub respond-spec : {M : Type 1} → statement M
 respond-spec =
@@ -51,8 +51,8 @@ respond-spec =
     enum-known-k
     enum-known-r
     numbers-requires
-    cast-write-refusal
-    write-refusal-requires
+    cast-write-line
+    write-line-requires
     same-length
     returns
     same-length-2

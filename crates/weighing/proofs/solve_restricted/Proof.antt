@@ -3,7 +3,8 @@ use native.Mathlib.Omega.{arith}
 use borrow.Author.Needs.{needs}
 use borrow.Author.Needs.{needs}
 use Rattle.rows.specs.RowsLaws.{rows-within}
-use Rattle.weighing.specs.WeighingLaws.{copied-rows, copied-fewer, restricted-solved}
+use Rattle.restriction.specs.RestrictionLaws.{copied-fewer}
+use Rattle.weighing.specs.WeighingLaws.{copied-rows, restricted-solved}
 use Rattle.weighing.proofs.solve_restricted.Statement.{statement}
 use Rattle.weighing.proofs.solve_restricted.Tie as tie
 

@@ -13,8 +13,11 @@ abbrev μ-loop : tie.MeasureT-loop
 loop-holds : tie.Need-loop-holds Inv-loop μ-loop
 loop-holds c = search needs
 
-chart-line-requires : tie.Need-chart-line-requires Inv-loop μ-loop
-chart-line-requires c κs = search needs
+cell-requires : tie.Need-cell-requires Inv-loop μ-loop
+cell-requires c κs = search needs
+
+put-line-requires : tie.Need-put-line-requires Inv-loop μ-loop
+put-line-requires c κs = search needs
 
 add-i : tie.Need-add-i Inv-loop μ-loop
 add-i c = search needs
@@ -31,4 +34,13 @@ returns c = search needs
 pub chart-lines-spec : {M : Type 1} → statement M
 chart-lines-spec =
     tie.close
-    (tie.spec Inv-loop μ-loop loop-holds chart-line-requires add-i loop-less loop-again returns)
+    (tie.spec
+    Inv-loop
+    μ-loop
+    loop-holds
+    cell-requires
+    put-line-requires
+    add-i
+    loop-less
+    loop-again
+    returns)

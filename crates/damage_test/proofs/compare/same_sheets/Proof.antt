@@ -1,14 +1,14 @@
--- `damage_test::compare::same_plates` is safe and ends: it counts `i` up to 512.
+-- `damage_test::compare::same_sheets` is safe and ends: it counts `i` up to 2,048.
 use Prim.Native.Nat.{_-_, _≤_}
 use borrow.Author.Needs.{needs}
-use Rattle.damage_test.proofs.compare.same_plates.Statement.{statement}
-use Rattle.damage_test.proofs.compare.same_plates.Tie as tie
+use Rattle.damage_test.proofs.compare.same_sheets.Statement.{statement}
+use Rattle.damage_test.proofs.compare.same_sheets.Tie as tie
 
 abbrev Inv-loop : tie.InvT-loop
-Inv-loop a b i₀ i = i ≤ 512
+Inv-loop a b i₀ i = i ≤ 2048
 
 abbrev μ-loop : tie.MeasureT-loop
-μ-loop a b i₀ i = 512 - i
+μ-loop a b i₀ i = 2048 - i
 
 loop-holds : tie.Need-loop-holds Inv-loop μ-loop
 loop-holds c = search needs
@@ -34,8 +34,8 @@ loop-again c = search needs
 returns-2 : tie.Need-returns-2 Inv-loop μ-loop
 returns-2 c = search needs
 
-pub same-plates-spec : {M : Type 1} → statement M
-same-plates-spec =
+pub same-sheets-spec : {M : Type 1} → statement M
+same-sheets-spec =
     tie.close
     (tie.spec
     Inv-loop

@@ -1,0 +1,32 @@
+//! The sheet of good moves.
+
+use super::board::Board;
+use super::{field, Row};
+
+pub const LINE: usize = 12;
+
+/// The meant targets at a position of the console's that have at least its value.
+fn good<'a>(board: &'a Board, values: &'a Row, v: usize) -> impl Iterator<Item = u16> + 'a {
+    let least = values[v];
+    board.meant(v).iter().copied().filter(move |&to| values[usize::from(to)] >= least)
+}
+
+/// How many good moves there are.
+pub fn lines(board: &Board, values: &Row) -> usize {
+    (0..board.n).filter(|&v| board.console[v]).map(|v| good(board, values, v).count()).sum()
+}
+
+/// Writes the good moves into the first lines of a buffer that has room for them.
+pub fn write(board: &Board, values: &Row, buffer: &mut [u8]) {
+    let mut place = 0;
+    for v in (0..board.n).filter(|&v| board.console[v]) {
+        for to in good(board, values, v) {
+            let line = &mut buffer[place..place + LINE];
+            line[0] = b'G';
+            field::put(&mut line[1..6], v as u16);
+            field::put(&mut line[6..11], to);
+            line[LINE - 1] = b'\n';
+            place += LINE;
+        }
+    }
+}
