@@ -3,9 +3,9 @@
 
 mod board;
 mod field;
-mod plate;
+pub mod plate;
 mod rounds;
-mod sheet;
+pub mod sheet;
 
 use crate::capi::{Listed, Refusal, Valued, Written, NONE};
 use crate::chart::POSITIONS;

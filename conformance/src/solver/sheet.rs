@@ -21,12 +21,23 @@ pub fn write(board: &Board, values: &Row, buffer: &mut [u8]) {
     let mut place = 0;
     for v in (0..board.n).filter(|&v| board.console[v]) {
         for to in good(board, values, v) {
-            let line = &mut buffer[place..place + LINE];
-            line[0] = b'G';
-            field::put(&mut line[1..6], v as u16);
-            field::put(&mut line[6..11], to);
-            line[LINE - 1] = b'\n';
+            put_line(&mut buffer[place..place + LINE], v as u16, to);
             place += LINE;
         }
     }
+}
+
+/// Writes lines from rows of positions and targets, without a chart: for the timings.
+pub fn put_lines(froms: &[u16], tos: &[u16], buffer: &mut [u8]) {
+    for ((&from, &to), line) in froms.iter().zip(tos).zip(buffer.chunks_exact_mut(LINE)) {
+        put_line(line, from, to);
+    }
+}
+
+#[inline(always)]
+fn put_line(line: &mut [u8], from: u16, to: u16) {
+    line[0] = b'G';
+    field::put(&mut line[1..6], from);
+    field::put(&mut line[6..11], to);
+    line[LINE - 1] = b'\n';
 }

@@ -126,7 +126,7 @@ fn value(b: u8) -> u32
 
 // The byte in the place of `unit`, 10 to 10,000: a space before the number's first digit. Callers name the unit; the bound keeps it from
 // being 0.
-pub fn place(x: u32, unit: u32) -> u8
+fn place(x: u32, unit: u32) -> u8
     requires { ⌜ 0 < unit ⌝ }
     ensures { λ r. ⌜ r ≡ placeByte x unit ⌝ }
 {

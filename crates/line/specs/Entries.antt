@@ -85,7 +85,7 @@ entry-stands text at next e n h good q =
     ∙ ap₂ (λ (l : List ℕ) (k : ℕ). l ++ drop k text) (read-entry-stands (five text at) e refl good q .0) n
 
 -- the five bytes behind p
-five-behind : (p vs rest : List ℕ) (at : ℕ) → length p ≡ at → length vs ≡ 5 → five (p ++ (vs ++ rest)) at ≡ vs
+pub five-behind : (p vs rest : List ℕ) (at : ℕ) → length p ≡ at → length vs ≡ 5 → five (p ++ (vs ++ rest)) at ≡ vs
 unfolding five
 five-behind p vs rest at l k =
     let h : at + 5 ≤ length (p ++ (vs ++ rest)) = simp length-append (omega arith) in

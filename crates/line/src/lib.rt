@@ -1,12 +1,12 @@
-// The line of every sheet: a letter, some number of fields, a line feed. What a field of it reads as and how it is written, over any
-// number of fields; what stands in the fields of a chart and of a plate is said there (specs/Text.antt, specs/LineLaws.antt).
+// The line of every sheet: a letter, some number of fields, a line feed. What a field of it reads as, over any number of fields; what
+// stands in the fields of a chart and of a plate is said there (specs/Text.antt, specs/LineLaws.antt). What making a field and a line
+// promises is in specs/Made.antt; the crate `making` makes fields.
 ghost use mathlib.Core.Path.{_≡_};
 ghost use mathlib.Core.List.{[], _∷_};
 ghost use Prim.Native.Nat.{_+_, _≤_};
 ghost use lib.ListN.{length};
-ghost use lib.Seq.{sets};
 ghost use Rattle.field.specs.Text.{five};
-ghost use Rattle.line.specs.Text.{entryAt, sameText, withEntry, lineSize, framed};
+ghost use Rattle.line.specs.Text.{entryAt, sameText, lineSize, framed};
 use field::Field;
 
 // What a field reads as.
@@ -70,29 +70,4 @@ fn spells(text: &[u8], at: usize, b: u8, c: u8, d: u8, e: u8) -> bool
         return false;
     }
     true
-}
-
-// An entry into its five places from `at`. The bound keeps them within the text. A bad one is left blank.
-pub fn write_entry(e: Entry, text: &mut [u8], at: usize)
-    requires { ⌜ at + 5 ≤ length (now text) ⌝ }
-    ensures { λ _. ⌜ now (text .exit) ≡ withEntry (now (text .entry)) at e ⌝ }
-{
-    match e {
-        Entry::Number(x) => field::write(x, text, at),
-        Entry::Dash => write_word(b' ', b' ', b' ', b'-', text, at),
-        Entry::Ever => write_word(b'e', b'v', b'e', b'r', text, at),
-        Entry::Bad => write_word(b' ', b' ', b' ', b' ', text, at),
-    }
-}
-
-// A space and four bytes.
-fn write_word(b: u8, c: u8, d: u8, e: u8, text: &mut [u8], at: usize)
-    requires { ⌜ at + 5 ≤ length (now text) ⌝ }
-    ensures { λ _. ⌜ now (text .exit) ≡ sets (now (text .entry)) at (32 ∷ b ∷ c ∷ d ∷ e ∷ []) ⌝ }
-{
-    text[at] = b' ';
-    text[at + 1] = b;
-    text[at + 2] = c;
-    text[at + 3] = d;
-    text[at + 4] = e;
 }

@@ -1,13 +1,14 @@
 // A plate's header and three rows of numbers set out as its lines (document 01, "The plate"), straight into the lent buffer.
 ghost use mathlib.Core.Path.{_≡_};
-ghost use mathlib.Core.List.{[], _∷_, _++_};
+ghost use mathlib.Core.List.{_++_};
 ghost use Prim.Native.Nat.{_+_, _*_, _≤_, _<_};
 ghost use lib.ListN.{length, drop};
 ghost use Rattle.rows.specs.Numbers.{valueOf, rowValue};
-ghost use Rattle.line.specs.Text.{lineText};
-ghost use Rattle.plate.specs.Text.{valueEntry, dashEntry, positionLine, positionLines, plateText};
-use line::Entry;
-use line::write_entry;
+ghost use Rattle.line.specs.Made.{FieldMade, LineMade};
+ghost use Rattle.plate.specs.Text.{valueEntry, dashEntry, headerEntries, positionEntries, positionLines, plateText};
+use making::make_dash;
+use making::make_ever;
+use making::make_number;
 use plate::LINE;
 use rows::FirstLine;
 use rows::NONE;
@@ -26,14 +27,7 @@ pub fn write_rows(
     requires { ⌜ (n + 1) * 22 ≤ length (now out) ⌝ }
     ensures { λ _. ⌜ now (out .exit) ≡ plateText n header (rowValue (now (values .entry))) (rowValue (now (choices .entry))) (rowValue (now (steps .entry))) ++ drop ((n + 1) * 22) (now (out .entry)) ⌝ }
 {
-    write_line(
-        b'P',
-        Entry::Number(n as u32),
-        Entry::Number(header.rounds as u32),
-        dash_entry(header.highest),
-        Entry::Number(header.evers as u32),
-        out,
-    );
+    write_header(n, header, out);
     let at = LINE;
     write_positions(n, values, choices, steps, &mut out[at..]);
 }
@@ -52,51 +46,53 @@ fn write_positions(n: usize, values: &[u16], choices: &[u16], steps: &[u16], lin
     }
 }
 
-// A position's line into the part of the buffer that begins with it.
+// The first line into the part of the buffer that begins with it. The bounds keep the line within the part, and the count within its
+// field.
+fn write_header(n: usize, header: FirstLine, part: &mut [u8])
+    requires { ⌜ (n ≤ 512) × (22 ≤ length (now part)) ⌝ }
+    ensures { λ _. ⌜ LineMade (now (part .entry)) (now (part .exit)) 80 (headerEntries n header) ⌝ }
+{
+    part[0] = b'P';
+    make_number(n as u32, part, 1);
+    make_number(header.rounds as u32, part, 6);
+    make_or_dash(header.highest, part, 11);
+    make_number(header.evers as u32, part, 16);
+    part[21] = b'\n';
+}
+
+// A position's line, likewise.
 fn write_position(v: usize, value: u16, choice: u16, step: u16, part: &mut [u8])
     requires { ⌜ (v < 512) × (22 ≤ length (now part)) ⌝ }
-    ensures { λ _. ⌜ now (part .exit) ≡ positionLine v (valueOf value) (valueOf choice) (valueOf step) ++ drop 22 (now (part .entry)) ⌝ }
+    ensures { λ _. ⌜ LineMade (now (part .entry)) (now (part .exit)) 86 (positionEntries v (valueOf value) (valueOf choice) (valueOf step)) ⌝ }
 {
-    write_line(
-        b'V',
-        Entry::Number(v as u32),
-        value_entry(value),
-        dash_entry(choice),
-        dash_entry(step),
-        part,
-    )
+    part[0] = b'V';
+    make_number(v as u32, part, 1);
+    make_value(value, part, 6);
+    make_or_dash(choice, part, 11);
+    make_or_dash(step, part, 16);
+    part[21] = b'\n';
 }
 
-// A line into the first 22 bytes of a part; the others stay.
-fn write_line(letter: u8, a: Entry, b: Entry, c: Entry, d: Entry, part: &mut [u8])
-    requires { ⌜ 22 ≤ length (now part) ⌝ }
-    ensures { λ _. ⌜ now (part .exit) ≡ lineText letter (a ∷ b ∷ c ∷ d ∷ []) ++ drop 22 (now (part .entry)) ⌝ }
-{
-    part[0] = letter;
-    write_entry(a, part, 1);
-    write_entry(b, part, 6);
-    write_entry(c, part, 11);
-    write_entry(d, part, 16);
-    part[21] = 10;
-}
-
-// The entry of a value, and of a number in a column of dashes.
-fn value_entry(x: u16) -> Entry
-    ensures { λ r. ⌜ r ≡ valueEntry (valueOf x) ⌝ }
+// The field of a value in the five places from `at`, which the bound keeps within the part.
+fn make_value(x: u16, part: &mut [u8], at: usize)
+    requires { ⌜ at + 5 ≤ length (now part) ⌝ }
+    ensures { λ _. ⌜ FieldMade (now (part .entry)) (now (part .exit)) at (valueEntry (valueOf x)) ⌝ }
 {
     if x == NONE {
-        Entry::Ever
+        make_ever(part, at);
     } else {
-        Entry::Number(x as u32)
+        make_number(x as u32, part, at);
     }
 }
 
-fn dash_entry(x: u16) -> Entry
-    ensures { λ r. ⌜ r ≡ dashEntry (valueOf x) ⌝ }
+// The field of a number in a column of dashes, likewise.
+fn make_or_dash(x: u16, part: &mut [u8], at: usize)
+    requires { ⌜ at + 5 ≤ length (now part) ⌝ }
+    ensures { λ _. ⌜ FieldMade (now (part .entry)) (now (part .exit)) at (dashEntry (valueOf x)) ⌝ }
 {
     if x == NONE {
-        Entry::Dash
+        make_dash(part, at);
     } else {
-        Entry::Number(x as u32)
+        make_number(x as u32, part, at);
     }
 }

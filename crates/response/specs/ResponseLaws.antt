@@ -1,15 +1,19 @@
 -- The response by what Writing answered, into a buffer with room for every plate.
-use Prim.Native.Nat.{ℕ, _+_, _*_, _≤_}
+use Prim.Native.Nat.{ℕ, _+_, _*_, _%_, _≤_}
 use native.Mathlib.Omega.{arith}
-use mathlib.Core.Path.{_≡_, refl, sym, _∙_}
-use mathlib.Core.List.{List, _++_}
+use mathlib.Core.Path.{_≡_, refl, sym, ap, _∙_}
+use mathlib.Core.List.{List, [], _∷_, _++_}
 use lib.ListN.{length, drop}
 use borrow.Author.Tests.{le-leb}
 use Rattle.game.specs.Arena.{size}
 use Rattle.line.specs.LineLaws.{line-length}
+use Rattle.line.specs.Made.{LineMade}
+use Rattle.line.specs.MadeLaws.{made-line}
+use Rattle.line.specs.declared.Entry.the-variants.{Number}
 use Rattle.chart.specs.Meaning.{arenaOf}
 use Rattle.chart.specs.Examined.{examined}
 use Rattle.chart.specs.Accepted.{accepted-size, accepted-chartable}
+use Rattle.refusal.specs.Numbers.{numbersOf}
 use Rattle.refusal.specs.declared.Refusal.{Refusal}
 use Rattle.refusal.specs.declared.Refusal.the-variants.{Chart as OfChart}
 use Rattle.chart.specs.declared.Examination.{Examination}
@@ -37,12 +41,16 @@ module _ (text out : List ℕ) (room : 11286 ≤ length out) where
             bytes = rw e (w .taken k refl);
           }
 
-  pub responded-line : (x : Refusal) (out′ out″ : List ℕ) → WrittenIs text out out′ (Turned x) → out″ ≡ refusalText x ++ drop 12 out′ → Responded text out out″ 12
+  pub responded-line : (x : Refusal) (out′ out″ : List ℕ) → WrittenIs text out out′ (Turned x) →
+      LineMade out′ out″ 82 (Number (numbersOf x .number) ∷ Number (numbersOf x .line % 100000) ∷ []) → Responded text out out″ 12
   unfolding response responseBy written writtenBy
-  responded-line x out′ out″ w line = go (examined text) refl (w .answer)
+  responded-line x out′ out″ w made = go (examined text) refl (w .answer)
     where
       same : out′ ≡ out
       same = w .refused x refl
+
+      line : out″ ≡ refusalText x ++ drop 12 out′
+      line = made-line out′ 82 _ (omega (arith, ap length same)) out″ made
 
       go : (e : Examination) → examined text ≡ e → Turned x ≡ writtenBy e (length out) → Responded text out out″ 12
       go (Refused r) e f =

@@ -4,11 +4,10 @@ ghost use mathlib.Core.Path.{_≡_};
 ghost use mathlib.Core.List.{[], _∷_, _++_};
 ghost use Prim.Native.Nat.{_*_, _≤_};
 ghost use lib.ListN.{length, drop};
-ghost use Rattle.line.specs.Text.{lineText};
+ghost use Rattle.line.specs.Made.{LineMade};
 ghost use Rattle.line.specs.declared.Entry.the-variants.{Number};
 ghost use Rattle.sheet_lines.specs.Lines.{pairLines};
-use line::Entry;
-use line::write_entry;
+use making::make_number;
 use rows::Chart;
 
 // A line for each of the first `count` pairs of numbers, each into its own part of the buffer, 12 bytes after the one before; what
@@ -33,10 +32,10 @@ pub fn write_lines(letter: u8, count: usize, firsts: &[u16], seconds: &[u16], li
 // A line into the first 12 bytes of a part, which the bound keeps within it; the others stay.
 pub fn write_line(letter: u8, first: u32, second: u32, part: &mut [u8])
     requires { ⌜ 12 ≤ length (now part) ⌝ }
-    ensures { λ _. ⌜ now (part .exit) ≡ lineText letter (Number first ∷ Number second ∷ []) ++ drop 12 (now (part .entry)) ⌝ }
+    ensures { λ _. ⌜ LineMade (now (part .entry)) (now (part .exit)) letter (Number first ∷ Number second ∷ []) ⌝ }
 {
     part[0] = letter;
-    write_entry(Entry::Number(first), part, 1);
-    write_entry(Entry::Number(second), part, 6);
+    make_number(first, part, 1);
+    make_number(second, part, 6);
     part[11] = b'\n';
 }

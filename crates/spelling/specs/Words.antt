@@ -1,8 +1,10 @@
 -- Four bytes as a word, and the last three bytes of a number's five as one.
 use Prim.Native.Nat.{ℕ, _+_, _*_, _%_, _<_}
 use mathlib.Core.Path.{_≡_}
+use mathlib.Core.Bool.{cond}
 use mathlib.Core.List.{List}
 use lib.ListN.{getD}
+use lib.Dec.{ltb}
 use Rattle.field.specs.Text.{placeByte}
 
 -- four bytes, the first of them the lowest
@@ -24,3 +26,7 @@ pub record WordIs (text : List ℕ) (at word : ℕ) : Type 0 where
 -- the bytes of x in the places of hundreds, tens and units
 unfoldable pub spelt : ℕ → ℕ
 spelt x = placeByte x 100 + placeByte x 10 * 256 + (48 + x % 10) * 65536
+
+-- a zero in the place of each digit of x, below 1,000, and spaces before them
+unfoldable pub zerosOf : ℕ → ℕ
+zerosOf x = cond (ltb x 10) (32 + 32 * 256 + 48 * 65536) (cond (ltb x 100) (32 + 48 * 256 + 48 * 65536) (48 + 48 * 256 + 48 * 65536))

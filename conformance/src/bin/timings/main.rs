@@ -11,7 +11,12 @@ use conformance::solver;
 use conformance::stacks::stacks;
 use std::hint::black_box;
 
+mod lines;
+
 const JOBS: [&str; 5] = ["value", "write", "check", "weigh", "good"];
+
+/// The shape of the random charts with an even mix.
+const EVEN: Shape = Shape { lane: 30, hazards: 5, meant: 8, disturbances: 8, reach: Reach::Anywhere };
 
 /// What the jobs are given: a chart with its plate, and the plate's choices; and the count of good moves that is to be
 /// answered.
@@ -122,7 +127,7 @@ fn kinds() -> Vec<(&'static str, Chart)> {
     let shape = |lane, hazards, meant, disturbances, reach| Shape { lane, hazards, meant, disturbances, reach };
     let full = |shape| shaped(POSITIONS, MOVES, shape);
     vec![
-        ("random, even mix", full(shape(30, 5, 8, 8, any))),
+        ("random, even mix", full(EVEN)),
         ("random, many unsafe", full(shape(50, 40, 12, 4, any))),
         ("random, many disturbances", full(shape(5, 1, 2, 14, any))),
         ("random, near targets", full(shape(10, 2, 8, 6, Reach::Near(6)))),
@@ -152,8 +157,7 @@ fn full_charts() {
 fn reading() {
     println!("\nReading alone: Valuing with rows too short, refused once the chart is read. Microseconds a call.\n");
     println!("{:<40}{:>10}{:>10}{:>8}", "chart", "library", "Rust", "ratio");
-    let even = Shape { lane: 30, hazards: 5, meant: 8, disturbances: 8, reach: Reach::Anywhere };
-    let small = [("32 positions, even mix", shaped(32, 256, even)), ("32 positions, chain", lane_chain(32, 256))];
+    let small = [("32 positions, even mix", shaped(32, 256, EVEN)), ("32 positions, chain", lane_chain(32, 256))];
     for (name, chart) in kinds().into_iter().chain(small) {
         let mut text = chart.text();
         reading_row(name, &text);
@@ -176,8 +180,7 @@ fn growth() {
     println!();
     for name in ["random", "chain"] {
         for n in [32, 64, 128, 256, 512] {
-            let shape = Shape { lane: 30, hazards: 5, meant: 8, disturbances: 8, reach: Reach::Anywhere };
-            let chart = if name == "chain" { lane_chain(n, 8 * n) } else { shaped(n, 8 * n, shape) };
+            let chart = if name == "chain" { lane_chain(n, 8 * n) } else { shaped(n, 8 * n, EVEN) };
             let input = Input::new(&chart);
             print!("{name:<10}{n:>6}");
             for job in 0..JOBS.len() {
@@ -206,10 +209,12 @@ fn memory() {
 
 fn main() {
     println!("The library through its C interface beside the fast solver in Rust, both built for release.");
-    println!("Each call is a whole job from the chart's text. Medians of batches that take turns.");
+    println!("Each call is a whole job from the chart's text, but where lines alone are timed.");
+    println!("Medians of batches that take turns.");
     println!("What is lent is not cleared between calls: answers are written over the last ones.\n");
     full_charts();
     reading();
+    lines::lines();
     growth();
     memory();
 }
