@@ -1,8 +1,9 @@
 /* Dushemqa: lane charts and their plates, from C.
  *
  * A chart names the positions of a bowling lane's machine, who chooses the next move there, the moves that are meant, the
- * disturbances that may take their place, and the unsafe positions. Its plate says how many disturbances it takes to bring the
- * machine from each position to an unsafe one, against every controller that could be built, and which move to choose there.
+ * disturbances that may take their place, the positions of rest, where a cycle may end, and the unsafe positions. Its plate
+ * says how many disturbances it takes to bring the machine from each position to an unsafe one, against every controller that
+ * could be built, and which move to choose there.
  *
  * Every function is proved, for all bytes and numbers that may be lent to it, to answer what the library's job of that name
  * answers, to end, and to touch nothing but what is lent. What a caller owes:
@@ -16,10 +17,11 @@
  * A chart is text in lines of 12 bytes: a letter, two fields of five bytes, a line feed. A field is a number, right-justified
  * after spaces, with no leading zero.
  *     H positions moves   the first line: how many there are
- *     O position mark     a position where the console chooses; L where the lane does. They are numbered from 0 in order, and
- *                         the mark is 0 for safe, 1 for unsafe. A blank mark, five spaces, means 0; no other field may be blank
+ *     O position mark     a position where the console chooses; L where the lane does; R a position of rest, where nobody does
+ *                         and a cycle may end. They are numbered from 0 in order, and the mark is 0 for safe, 1 for unsafe. A
+ *                         blank mark, five spaces, means 0; no other field may be blank
  *     M from to           a meant move; D a disturbance. They rise: by from, then M before D, then by to
- * Disturbances leave O positions only, and each position has a meant move.
+ * Each O and L position has a meant move, an R none. Disturbances leave O and R positions only; an R may have none.
  *
  * A plate is text in lines of 22 bytes: a letter, four such fields, a line feed. A field may also read "-" or "ever".
  *     P positions rounds highest evers   the first line: how many positions, how many different pairs of value and step, the
@@ -27,7 +29,8 @@
  *     V position value choice step       a line for each position, in order. The value is the least number of disturbances by
  *                                        which an unsafe position can be reached from there against the best controller,
  *                                        "ever" if none can be reached; the choice is the meant target to choose at O, "-"
- *                                        at L; the step orders positions of one value by how near ruin is, "-" at "ever"
+ *                                        at L and R; the step orders positions of one value by how near ruin is, "-" at "ever".
+ *                                        A safe R without disturbances reads "ever"
  * A plate is of the form if the first line's count is the chart's and each other number is within its bounds: rounds and evers 0
  * to 512; highest, value and step 0 to 511; choice below the count of positions.
  * In rows of numbers a position's entry stands at its number, and DUSHEMQA_NONE stands for "ever" and for "-".
@@ -36,7 +39,7 @@
  *     G position target   a line for each meant move of an O position whose target has at least the position's own value, in the
  *                         chart's order. Where the position reads "ever" that is each move into "ever", at an unsafe position
  *                         each meant move; where a disturbance holds the value down, the targets may have several values.
- *                         The plate's choice is always among them. Moves of L positions have no line
+ *                         The plate's choice is always among them. Moves of L and R positions have no line
  *
  * On a refusal everything that was lent is as it was, a run comes back as it was handed in, and all other numbers of the
  * answer are 0, save the position where a start began no run.
@@ -70,8 +73,9 @@ extern "C" {
 /* The most disturbances that a run counts. */
 #define DUSHEMQA_MAX_SEEN 99999
 
-/* Why a job refused. 1 to 9 are the chart's: every job tests them first, 9 last, and answers the lowest line at fault. Of 10 to 16 a
- * job answers the lowest number that applies; its own list says which it has. */
+/* Why a job refused. 1 to 9 and 17 are the chart's: every job tests them first, 9 last, and answers the lowest line at fault; 17
+ * is tested beside 7, after 6 and before 8. Of 10 to 16 a job answers the lowest number that applies; its own list says which it
+ * has. */
 enum dushemqa_number {
     DUSHEMQA_TAKEN = 0,             /* nothing was refused */
     DUSHEMQA_REFUSED_LENGTH = 1,    /* chart empty, over 55,308 bytes, or no multiple of 12 */
@@ -82,31 +86,32 @@ enum dushemqa_number {
     DUSHEMQA_REFUSED_ENDPOINT = 6,  /* a move names a position that is not on the chart */
     DUSHEMQA_REFUSED_DISTURBED = 7, /* a disturbance from a position of the lane's */
     DUSHEMQA_REFUSED_ORDER = 8,     /* a move not above the one before */
-    DUSHEMQA_REFUSED_NO_MEANT = 9,  /* a position without a meant move; the line of the lowest such position */
+    DUSHEMQA_REFUSED_NO_MEANT = 9,  /* an O or L position without a meant move; the line of the lowest such position */
     DUSHEMQA_REFUSED_SHORT = 10,    /* a lent buffer or row too short */
     DUSHEMQA_REFUSED_PLATE = 11,    /* plate's length not 22 times (positions + 1), or a line not of the plate's form */
-    DUSHEMQA_REFUSED_CHOICE = 12,   /* a choice that is no meant target at O, or not DUSHEMQA_NONE at L */
+    DUSHEMQA_REFUSED_CHOICE = 12,   /* a choice that is no meant target at O, or not DUSHEMQA_NONE at L or R */
     DUSHEMQA_REFUSED_POSITION = 13, /* a position that is not on the chart */
     DUSHEMQA_REFUSED_FAULT = 14,    /* checking finds a fault; its position and condition are given */
     DUSHEMQA_REFUSED_MOVE = 15,     /* the reported move can't follow */
-    DUSHEMQA_REFUSED_SEEN = 16      /* a disturbance with DUSHEMQA_MAX_SEEN or more seen */
+    DUSHEMQA_REFUSED_SEEN = 16,     /* a disturbance with DUSHEMQA_MAX_SEEN or more seen */
+    DUSHEMQA_REFUSED_RESTING = 17   /* a meant move from a position of rest */
 };
 
 /* The conditions of a plate that dushemqa_check tests, at each position from 0 up:
  *   1  An unsafe position has value 0.
  *   2  The step is "-" exactly when the value is "ever".
- *   3  The choice is a meant target at O, "-" at L.
+ *   3  The choice is a meant target at O, "-" at L and R.
  *   4  Holding: at O the choice has at least this value, and each disturbance's target at least this value less one ("ever"
- *      less one is "ever"). At L each meant target has at least this value.
+ *      less one is "ever"). At L each meant target has at least this value. At R the same is asked of disturbances as at O.
  *   5  Ruin, for a safe position whose value is a number: at O some disturbance's target has a smaller value, or all meant
- *      targets are earlier; at L some meant target is earlier. Earlier means smaller value, or equal value and smaller step;
- *      "-" is above each step.
+ *      targets are earlier; at L some meant target is earlier; at R some disturbance's target has a smaller value. Earlier means
+ *      smaller value, or equal value and smaller step; "-" is above each step.
  *   6  The first line's numbers are those of the plate's lines; answered with the count of positions as the position. */
 
 /* Whether a job refused, and why. */
 typedef struct {
     uint32_t number;   /* a number of the list above; DUSHEMQA_TAKEN if nothing was refused */
-    size_t line;       /* counted from 0 in the chart (1 to 9) or the plate (11), else 0 */
+    size_t line;       /* counted from 0 in the chart (1 to 9 and 17) or the plate (11), else 0 */
     size_t position;   /* the fault's position (14), else 0; the count of positions if the plate's first line is at fault */
     uint8_t condition; /* the fault's condition, 1 to 6 (14), else 0 */
 } dushemqa_refusal;
@@ -177,7 +182,7 @@ typedef struct {
  *   values, values_length    a row for the values; numbers past the last position stay
  *   choices, choices_length  a row for the choices
  *   steps, steps_length      a row for the steps
- * Refusals: 1 to 9; 10 if a row has fewer numbers than the chart has positions. */
+ * Refusals: 1 to 9 and 17; 10 if a row has fewer numbers than the chart has positions. */
 dushemqa_valued dushemqa_value(const uint8_t *chart, size_t chart_length,
                                uint16_t *values, size_t values_length,
                                uint16_t *choices, size_t choices_length,
@@ -186,7 +191,7 @@ dushemqa_valued dushemqa_value(const uint8_t *chart, size_t chart_length,
 /* Writing: the plate of a chart.
  *   chart, chart_length  the chart's bytes
  *   plate, plate_length  a buffer for the plate; bytes past the plate's last line stay. DUSHEMQA_MAX_PLATE_BYTES always suffice
- * Refusals: 1 to 9; 10 if the plate doesn't fit. */
+ * Refusals: 1 to 9 and 17; 10 if the plate doesn't fit. */
 dushemqa_written dushemqa_write(const uint8_t *chart, size_t chart_length,
                                 uint8_t *plate, size_t plate_length);
 
@@ -196,7 +201,7 @@ dushemqa_written dushemqa_write(const uint8_t *chart, size_t chart_length,
  *   values, values_length    a row for the values; numbers past the last position stay
  *   choices, choices_length  a row for the choices
  *   steps, steps_length      a row for the steps
- * Refusals: 1 to 9; 10 if a row has fewer numbers than the chart has positions; 11. */
+ * Refusals: 1 to 9 and 17; 10 if a row has fewer numbers than the chart has positions; 11. */
 dushemqa_reading dushemqa_read(const uint8_t *chart, size_t chart_length,
                                const uint8_t *plate, size_t plate_length,
                                uint16_t *values, size_t values_length,
@@ -207,15 +212,15 @@ dushemqa_reading dushemqa_read(const uint8_t *chart, size_t chart_length,
  * an optimal controller.
  *   chart, chart_length  the chart's bytes
  *   plate, plate_length  the plate's bytes
- * Refusals: 1 to 9; 11; 14 with the first fault. */
+ * Refusals: 1 to 9 and 17; 11; 14 with the first fault. */
 dushemqa_refusal dushemqa_check(const uint8_t *chart, size_t chart_length,
                                 const uint8_t *plate, size_t plate_length);
 
 /* Weighing: the worths of the positional controller that makes given choices.
  *   chart, chart_length      the chart's bytes
- *   choices, choices_length  a choice for each position, DUSHEMQA_NONE at L
+ *   choices, choices_length  a choice for each position, DUSHEMQA_NONE at L and R
  *   worths, worths_length    a row for the worths; numbers past the last position stay
- * Refusals: 1 to 9; 10 if a row has fewer numbers than the chart has positions; 12. */
+ * Refusals: 1 to 9 and 17; 10 if a row has fewer numbers than the chart has positions; 12. */
 dushemqa_refusal dushemqa_weigh(const uint8_t *chart, size_t chart_length,
                                 const uint16_t *choices, size_t choices_length,
                                 uint16_t *worths, size_t worths_length);
@@ -223,8 +228,8 @@ dushemqa_refusal dushemqa_weigh(const uint8_t *chart, size_t chart_length,
 /* Comparing: a plate's values against the worths of the positional controller that makes given choices.
  *   chart, chart_length      the chart's bytes
  *   plate, plate_length      the plate's bytes
- *   choices, choices_length  a choice for each position, DUSHEMQA_NONE at L
- * Refusals: 1 to 9; 10 if there are fewer choices than positions; 11; 12; 14 with the first fault. */
+ *   choices, choices_length  a choice for each position, DUSHEMQA_NONE at L and R
+ * Refusals: 1 to 9 and 17; 10 if there are fewer choices than positions; 11; 12; 14 with the first fault. */
 dushemqa_compared dushemqa_compare(const uint8_t *chart, size_t chart_length,
                                    const uint8_t *plate, size_t plate_length,
                                    const uint16_t *choices, size_t choices_length);
@@ -233,22 +238,23 @@ dushemqa_compared dushemqa_compare(const uint8_t *chart, size_t chart_length,
  *   chart, chart_length  the chart's bytes
  *   plate, plate_length  the plate's bytes
  *   position             where the machine stands
- * Refusals: 1 to 9; 11; 13; 14 with the first fault. A refused start begins no run: what it hands back has the position SIZE_MAX
- * and is otherwise 0, and a report of it is refused with 13. */
+ * Refusals: 1 to 9 and 17; 11; 13; 14 with the first fault. A refused start begins no run: what it hands back has the position
+ * SIZE_MAX and is otherwise 0, and a report of it is refused with 13. */
 dushemqa_step dushemqa_start(const uint8_t *chart, size_t chart_length,
                              const uint8_t *plate, size_t plate_length,
                              size_t position);
 
 /* Report: the machine went to a position. At O the move counts as meant if it is the plate's choice and a meant target, else
  * as a disturbance if a D line has it, else it is refused with 15; at L it counts as meant if it is a meant target, else it is
- * refused with 15. A meant target at O that is not the plate's choice thus counts as a disturbance, or not at all. While the same
- * two texts are lent, the value at the run's position plus the disturbances seen is at least the value at its start. The
- * plate's form is tested, and not again whether it is right.
+ * refused with 15; at R it counts as a disturbance if a D line has it, else it is refused with 15. A meant target at O that is
+ * not the plate's choice thus counts as a disturbance, or not at all. While the same two texts are lent, the value at the run's
+ * position plus the disturbances seen is at least the value at its start. The plate's form is tested, and not again whether it
+ * is right.
  *   run                  as the start or the last report handed it back
  *   chart, chart_length  the chart's bytes
  *   plate, plate_length  the plate's bytes
  *   to                   where the machine went
- * Refusals: 1 to 9; 11; 13 for `to` or for the run's own position; 15; 16. */
+ * Refusals: 1 to 9 and 17; 11; 13 for `to` or for the run's own position; 15; 16. */
 dushemqa_step dushemqa_report(dushemqa_run run,
                               const uint8_t *chart, size_t chart_length,
                               const uint8_t *plate, size_t plate_length,
@@ -259,7 +265,8 @@ dushemqa_step dushemqa_report(dushemqa_run run,
  * only listed moves is worth the value at every position. The plate's own choices are always listed.
  *   chart, chart_length  the chart's bytes
  *   sheet, sheet_length  a buffer for the sheet; bytes past the sheet's last line stay. DUSHEMQA_MAX_SHEET_BYTES always suffice
- * Refusals: 1 to 9; 10 if the sheet's lines don't fit. A chart without O positions has no line: then any length serves, 0 too. */
+ * Refusals: 1 to 9 and 17; 10 if the sheet's lines don't fit. A chart without O positions has no line: then any length serves,
+ * 0 too. */
 dushemqa_listed dushemqa_good_moves(const uint8_t *chart, size_t chart_length,
                                     uint8_t *sheet, size_t sheet_length);
 

@@ -32,7 +32,8 @@ static const struct command commands[] = {
      "A table of the positions: the value, the worth of the controller that makes CHOICES, and a mark where the two\n"
      "differ. CHOICES is a plate, whose choices are taken, or a file with a line for each position from 0 up: the\n"
      "chosen position's number at O, - at L; lines past the last position are not looked at. The status is 0 also\n"
-     "where they differ.\n"},
+     "where they differ.\n"
+     "At R, a position of rest, the choice is - too.\n"},
     {"compare", "CHART PLATE CHOICES", 3, 3, NULL, compare_command, "a plate's values beside a controller's worths",
      "As 'lane weigh', with the values of PLATE, which must be accepted.\n"},
     {"good", "CHART", 1, 1, NULL, good_command, "every move that is as good as the chosen one",
@@ -56,7 +57,8 @@ static const struct command commands[] = {
      "    lane picture CHART | dot -Tsvg > chart.svg\n\n"
      "Boxes are the console's positions, ellipses the lane's, dark ones unsafe. In each stand its number, its value\n"
      "and its step; those of equal value lie in one row, \"ever\" at the top. Meant moves are solid, the choice bold,\n"
-     "disturbances dashed. Values and choices are computed, or PLATE's; one that is faulted is not drawn.\n"},
+     "disturbances dashed. Values and choices are computed, or PLATE's; one that is faulted is not drawn.\n"
+     "Hexagons are positions of rest, where nobody chooses.\n"},
     {"explain", "[NUMBER]", 0, 1, NULL, explain_command, "what a refusal's number means",
      "Says what is wrong and where, for the refusal with this number or for all.\n"},
 };

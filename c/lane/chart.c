@@ -39,6 +39,12 @@ size_t moves(const struct text *chart)
     return second_field(chart->bytes);
 }
 
+/* Whether a position is one of rest, which a number past the last is not. */
+bool at_rest(const struct text *chart, size_t position)
+{
+    return position < positions(chart) && chart_line(chart, 1 + position)[0] == 'R';
+}
+
 /* Whether a chart is taken: Checking tests it before the plate, and an empty plate is refused with 11 after that. */
 dushemqa_refusal examine(const struct text *chart)
 {

@@ -113,6 +113,8 @@ static enum status refuse_choices(const struct text *chart, const struct text *p
             word_of(choices->row[position], "-").letters);
     show_chart_line(stderr, chart, 1 + position);
     fprintf(stderr, "\n");
+    if (at_rest(chart, position))
+        fprintf(stderr, "  at a position of rest nobody chooses: it wants -\n");
     return REFUSED;
 }
 

@@ -51,7 +51,8 @@ unsigned parts_at_fault(const struct text *chart, dushemqa_refusal refusal)
     case DUSHEMQA_REFUSED_SEQUENCE:
     case DUSHEMQA_REFUSED_ENDPOINT:
         return ask(chart, refusal);
-    case DUSHEMQA_REFUSED_DISTURBED: /* the two together: a disturbance, and where it leaves */
+    case DUSHEMQA_REFUSED_DISTURBED: /* the two together: a disturbance or a meant move, and where it leaves */
+    case DUSHEMQA_REFUSED_RESTING:
         return LETTER | FIRST;
     default: /* it is about more than one line, or about the whole line */
         return 0;

@@ -61,6 +61,7 @@ size_t first_field(const uint8_t *line);
 size_t second_field(const uint8_t *line);
 size_t positions(const struct text *chart);
 size_t moves(const struct text *chart);
+bool at_rest(const struct text *chart, size_t position);
 dushemqa_refusal examine(const struct text *chart);
 
 /* The rows that Valuing and Reading fill. */

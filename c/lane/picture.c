@@ -4,9 +4,26 @@
 #include <string.h>
 
 /* Shape and fill say who chooses, and a dark fill with a double rim that a position is unsafe: also without colours. */
-static const char console_shape[] = "box", console_fill[] = "\"#dbe9f6\"";
-static const char lane_shape[] = "ellipse", lane_fill[] = "\"#fdf3d0\"";
+struct look {
+    uint8_t letter;
+    const char *shape, *fill;
+};
+static const struct look looks[] = {
+    {'O', "box", "\"#dbe9f6\""},
+    {'L', "ellipse", "\"#fdf3d0\""},
+    {'R', "hexagon", "\"#dfe8d8\""},
+};
 static const char unsafe_fill[] = "\"#7a1f1f\", fontcolor=white, peripheries=2";
+
+enum { LOOKS = sizeof looks / sizeof looks[0] };
+
+static const struct look *look_of(uint8_t letter)
+{
+    size_t i = 0;
+    while (i + 1 < LOOKS && looks[i].letter != letter)
+        i++;
+    return &looks[i];
+}
 
 /* The part of a name after its last slash, as a DOT string. */
 static void show_title(const char *name)
@@ -41,14 +58,24 @@ static size_t room(size_t row)
     return row > 40 ? 180 : 60 + 3 * row;
 }
 
+static bool any_at_rest(const struct text *chart)
+{
+    for (size_t v = 0; v < positions(chart); v++) {
+        if (at_rest(chart, v))
+            return true;
+    }
+    return false;
+}
+
 static void show_head(const struct text *chart, const uint16_t *values)
 {
     size_t hundredths = room(largest_row(positions(chart), values));
     printf("digraph chart {\n");
     printf("  label=\"");
     show_title(chart->name);
-    printf("\\nboxes: the console chooses; ellipses: the lane; dark: unsafe\\n"
-           "in each its number, value and (step); bold: the choice; dashed: disturbances\";\n");
+    printf("\\nboxes: the console chooses; ellipses: the lane; %sdark: unsafe\\n"
+           "in each its number, value and (step); bold: the choice; dashed: disturbances\";\n",
+           any_at_rest(chart) ? "hexagons: nobody, at rest; " : "");
     printf("  fontname=\"Helvetica\"; nodesep=0.35; ranksep=%zu.%02zu;\n", hundredths / 100, hundredths % 100);
     printf("  node [style=filled, fontname=\"Helvetica\"];\n");
     printf("  edge [constraint=false];\n");
@@ -60,9 +87,8 @@ static void show_position(const uint8_t *line, size_t v, const struct rows *rows
     printf("  %zu [label=\"%zu\\n%s", v, v, word_of(rows->values[v], "ever").letters);
     if (rows->steps[v] != DUSHEMQA_NONE)
         printf(" (%u)", (unsigned)rows->steps[v]);
-    bool console = line[0] == 'O', unsafe = second_field(line) == 1;
-    printf("\", shape=%s, fillcolor=%s];\n", console ? console_shape : lane_shape,
-           unsafe ? unsafe_fill : console ? console_fill : lane_fill);
+    const struct look *look = look_of(line[0]);
+    printf("\", shape=%s, fillcolor=%s];\n", look->shape, second_field(line) == 1 ? unsafe_fill : look->fill);
 }
 
 static void show_move(const uint8_t *line, const struct rows *rows)

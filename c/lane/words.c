@@ -34,26 +34,30 @@ static const struct refusal_words refusals[] = {
     [DUSHEMQA_REFUSED_FAULT] = {PLATE, "checking finds a fault", "a position of the plate, and the condition it breaks"},
     [DUSHEMQA_REFUSED_MOVE] = {NO_SHEET, "the reported move can't follow", "a report"},
     [DUSHEMQA_REFUSED_SEEN] = {NO_SHEET, "a disturbance with 99,999 or more seen", "a report"},
+    [DUSHEMQA_REFUSED_RESTING] = {CHART, "a meant move from a position of rest", chart_where},
 };
 
 enum { REFUSALS = sizeof refusals / sizeof refusals[0] };
 
 struct condition_words {
     const char *name;
-    const char *asks; /* document 01's sentence */
+    const char *asks;         /* document 01's sentence */
+    const char *asks_at_rest; /* what it asks at R, where that is not said yet */
 };
 
 static const struct condition_words conditions[] = {
-    {"", ""},
-    {"unsafe", "An unsafe position has value 0."},
-    {"step", "The step is - exactly when the value is \"ever\"."},
-    {"choice", "The choice is a meant target at O, - at L."},
+    {"", "", NULL},
+    {"unsafe", "An unsafe position has value 0.", NULL},
+    {"step", "The step is - exactly when the value is \"ever\".", NULL},
+    {"choice", "The choice is a meant target at O, - at L.", "At R it is -."},
     {"holding", "Holding: at O the choice has at least this value, and each disturbance's target at least this value\n"
-                "       less one (\"ever\" less one is \"ever\"). At L each meant target has at least this value."},
+                "       less one (\"ever\" less one is \"ever\"). At L each meant target has at least this value.",
+     "At R each disturbance's target has at least this value less one."},
     {"ruin", "Ruin, for a safe position of finite value: at O some disturbance's target has a smaller value, or all\n"
              "       meant targets are earlier; at L some meant target is earlier. Earlier means smaller value, or equal\n"
-             "       value and smaller step; - is above each step."},
-    {"first line", "The first line's numbers are those of the plate's lines."},
+             "       value and smaller step; - is above each step.",
+     "At R some disturbance's target has a smaller value."},
+    {"first line", "The first line's numbers are those of the plate's lines.", NULL},
 };
 
 enum { CONDITIONS = sizeof conditions / sizeof conditions[0] };
@@ -73,10 +77,13 @@ static const char *condition_name(unsigned condition)
     return condition < CONDITIONS ? conditions[condition].name : "one that this tool has no words for";
 }
 
-static void show_condition(FILE *out, unsigned condition)
+static void show_condition(FILE *out, unsigned condition, bool resting)
 {
-    if (condition >= 1 && condition < CONDITIONS)
-        fprintf(out, "    %u  %s\n", condition, conditions[condition].asks);
+    if (condition < 1 || condition >= CONDITIONS)
+        return;
+    fprintf(out, "    %u  %s\n", condition, conditions[condition].asks);
+    if (resting && conditions[condition].asks_at_rest != NULL)
+        fprintf(out, "       %s\n", conditions[condition].asks_at_rest);
 }
 
 static void explain(unsigned number)
@@ -86,11 +93,15 @@ static void explain(unsigned number)
         printf("    a blank field (five spaces) is bad, save as a position's mark, where it means 0\n");
     if (number == DUSHEMQA_REFUSED_SEQUENCE)
         printf("    a blank mark means 0\n");
+    if (number == DUSHEMQA_REFUSED_NO_MEANT)
+        printf("    a position of rest (R) has none, and is not refused for it\n");
+    if (number == DUSHEMQA_REFUSED_CHOICE)
+        printf("    at a position of rest (R) it is - too\n");
     if (number != DUSHEMQA_REFUSED_FAULT)
         return;
     printf("    the conditions, at each position from 0 up:\n");
     for (unsigned condition = 1; condition < CONDITIONS; condition++)
-        show_condition(stdout, condition);
+        show_condition(stdout, condition, true);
 }
 
 enum status explain_command(const struct call *call)
@@ -255,7 +266,7 @@ static void say_plate(const struct text *chart, const struct text *plate, dushem
     show_where(stderr, chart, plate, refusal);
     fprintf(stderr, "\n");
     if (refusal.number == DUSHEMQA_REFUSED_FAULT)
-        show_condition(stderr, refusal.condition);
+        show_condition(stderr, refusal.condition, at_rest(chart, refusal.position));
     if (plate->length == plate_length(chart))
         fprintf(stderr, "  (lines are counted from 0)\n");
 }

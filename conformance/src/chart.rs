@@ -8,6 +8,18 @@ pub const MOVES: usize = 4096;
 pub enum Owner {
     Console,
     Lane,
+    /// A position of rest: no meant moves, and nobody chooses.
+    Nobody,
+}
+
+impl Owner {
+    pub fn letter(self) -> u8 {
+        match self {
+            Owner::Console => b'O',
+            Owner::Lane => b'L',
+            Owner::Nobody => b'R',
+        }
+    }
 }
 
 /// A position with its moves, both lists rising.
@@ -41,8 +53,7 @@ impl Chart {
         let mut text = Vec::with_capacity(12 * (1 + self.len() + self.moves()));
         push_line(&mut text, b'H', self.len(), self.moves());
         for (number, position) in self.positions.iter().enumerate() {
-            let letter = if position.owner == Owner::Console { b'O' } else { b'L' };
-            push_line(&mut text, letter, number, usize::from(!position.safe));
+            push_line(&mut text, position.owner.letter(), number, usize::from(!position.safe));
         }
         for (from, position) in self.positions.iter().enumerate() {
             for &to in &position.meant {
@@ -83,36 +94,47 @@ pub fn held(field: &[u8]) -> Option<usize> {
     std::str::from_utf8(field).ok()?.trim_start().parse().ok()
 }
 
-/// How many positions there can be in a chart of `n`: the mark, the meant targets (at least one), and either the lane's
-/// or the console's with any disturbances.
-fn kinds(n: usize) -> usize {
+/// How many positions with meant moves there can be in a chart of `n`: the mark, the meant targets (at least one), and
+/// either the lane's or the console's with any disturbances.
+fn chosen_kinds(n: usize) -> usize {
     2 * ((1 << n) - 1) * (1 + (1 << n))
 }
 
-/// How many charts of `n` positions there are.
+/// With those of rest: the mark, and any disturbances.
+fn kinds(n: usize) -> usize {
+    chosen_kinds(n) + 2 * (1 << n)
+}
+
+/// How many numbers there are for the charts of `n` positions.
 pub fn small_charts(n: usize) -> usize {
     kinds(n).pow(n as u32)
 }
 
-/// The chart of `n` positions with a number below `small_charts(n)`.
-pub fn small_chart(n: usize, number: usize) -> Chart {
+/// The chart of `n` positions with a number below `small_charts(n)`. Positions of rest alone, none of them disturbed, are no
+/// chart: it wants a move.
+pub fn small_chart(n: usize, number: usize) -> Option<Chart> {
     let mut rest = number;
     let mut positions = Vec::with_capacity(n);
     for _ in 0..n {
         positions.push(small_position(n, rest % kinds(n)));
         rest /= kinds(n);
     }
-    Chart { positions }
+    let chart = Chart { positions };
+    (chart.moves() > 0).then_some(chart)
 }
 
 fn small_position(n: usize, kind: usize) -> Position {
-    let (safe, rest) = (kind % 2 == 0, kind / 2);
-    let (meant, rest) = (1 + rest % ((1 << n) - 1), rest / ((1 << n) - 1));
+    let safe = kind % 2 == 0;
+    if kind >= chosen_kinds(n) {
+        let disturbances = members((kind - chosen_kinds(n)) / 2);
+        return Position { owner: Owner::Nobody, safe, meant: Vec::new(), disturbances };
+    }
+    let (meant, others) = (1 + kind / 2 % ((1 << n) - 1), kind / 2 / ((1 << n) - 1));
     Position {
-        owner: if rest == 0 { Owner::Lane } else { Owner::Console },
+        owner: if others == 0 { Owner::Lane } else { Owner::Console },
         safe,
         meant: members(meant),
-        disturbances: if rest == 0 { Vec::new() } else { members(rest - 1) },
+        disturbances: if others == 0 { Vec::new() } else { members(others - 1) },
     }
 }
 

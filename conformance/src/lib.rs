@@ -8,6 +8,7 @@ pub mod measure;
 pub mod model;
 pub mod parts;
 pub mod random;
+pub mod rests;
 pub mod shapes;
 pub mod sheets;
 pub mod solver;

@@ -6,6 +6,7 @@ pub mod damaged;
 pub mod drawn;
 pub mod examples;
 pub mod pairs;
+pub mod rest;
 pub mod setting;
 pub mod small;
 
@@ -32,17 +33,20 @@ impl Share {
 fn controllers(chart: &Chart) -> Vec<Vec<u16>> {
     let mut rows = vec![Vec::new()];
     for position in &chart.positions {
-        let choices: &[u16] = if position.owner == Owner::Console { &position.meant } else { &[NONE] };
+        let choices: &[u16] = match position.owner {
+            Owner::Console => &position.meant,
+            Owner::Lane | Owner::Nobody => &[NONE],
+        };
         rows = rows.iter().flat_map(|row| choices.iter().map(|&choice| [row.as_slice(), &[choice]].concat())).collect();
     }
     rows
 }
 
-/// A choice for each position at random: a meant target at O, none at L.
+/// A choice for each position at random: a meant target at O, none at L and at R.
 fn random_choices(random: &mut Random, chart: &Chart) -> Vec<u16> {
     let choose = |position: &Position| match position.owner {
         Owner::Console => *random.pick(&position.meant),
-        Owner::Lane => NONE,
+        Owner::Lane | Owner::Nobody => NONE,
     };
     chart.positions.iter().map(choose).collect()
 }

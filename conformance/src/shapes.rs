@@ -1,4 +1,5 @@
-//! Charts of many shapes: pseudo-random ones up to the limits, and long chains with as many rounds as there can be.
+//! Charts of many shapes: pseudo-random ones up to the limits, with positions of rest or without, and long chains with as
+//! many rounds as there can be.
 
 use crate::chart::{Chart, Owner, Position, MOVES};
 use crate::random::Random;
@@ -86,6 +87,47 @@ fn target(random: &mut Random, n: usize, from: usize, reach: Reach, disturbance:
     }
 }
 
+/// A drawn chart, perhaps with positions of rest.
+pub fn drawn_or_rested(random: &mut Random, n: usize, shape: Shape) -> Chart {
+    let chart = drawn(random, n, shape);
+    perhaps_rested(random, chart)
+}
+
+/// The chart as it is in half of the cases, and else with some of its positions at rest: a few or most of them.
+pub fn perhaps_rested(random: &mut Random, chart: Chart) -> Chart {
+    match *random.pick(&[0, 0, 0, 0, 10, 20, 40, 80]) {
+        0 => chart,
+        percent => rested(random, chart, percent),
+    }
+}
+
+/// The chart with so many of 100 positions at rest. Their meant moves are left out or, in one of three positions, become
+/// disturbances. Each chart needs a move.
+pub fn rested(random: &mut Random, mut chart: Chart, percent: usize) -> Chart {
+    let n = chart.len();
+    for position in &mut chart.positions {
+        if random.chance(percent) {
+            position.owner = Owner::Nobody;
+            let meant = std::mem::take(&mut position.meant);
+            if random.chance(33) {
+                position.disturbances = union(meant, &position.disturbances);
+            }
+        }
+    }
+    if chart.moves() == 0 {
+        chart.positions[random.below(n)].disturbances.push(random.below(n) as u16);
+    }
+    chart
+}
+
+/// What stands in either list, rising.
+fn union(mut one: Vec<u16>, other: &[u16]) -> Vec<u16> {
+    one.extend_from_slice(other);
+    one.sort_unstable();
+    one.dedup();
+    one
+}
+
 /// The same chart with its positions numbered in another order.
 pub fn renumbered(random: &mut Random, chart: &Chart) -> Chart {
     let mut order: Vec<u16> = (0..chart.len() as u16).collect();
@@ -113,7 +155,11 @@ pub fn stirred(random: &mut Random, mut chart: Chart, times: usize) -> Chart {
     let n = chart.len();
     for _ in 0..times {
         let position = &mut chart.positions[random.below(n)];
-        let disturbance = position.owner == Owner::Console && random.chance(70);
+        let disturbance = match position.owner {
+            Owner::Console => random.chance(70),
+            Owner::Lane => false,
+            Owner::Nobody => true,
+        };
         let list = if disturbance { &mut position.disturbances } else { &mut position.meant };
         let to = random.below(n) as u16;
         if let Err(place) = list.binary_search(&to) {
@@ -134,7 +180,12 @@ pub fn filled(mut chart: Chart, moves: usize, allowed: impl Fn(usize, usize, boo
             break;
         }
         let position = &mut chart.positions[from];
-        if disturbance && position.owner == Owner::Lane || !allowed(from, to, disturbance) {
+        let leaves = match position.owner {
+            Owner::Console => true,
+            Owner::Lane => !disturbance,
+            Owner::Nobody => disturbance,
+        };
+        if !leaves || !allowed(from, to, disturbance) {
             continue;
         }
         let list = if disturbance { &mut position.disturbances } else { &mut position.meant };
@@ -186,6 +237,19 @@ pub fn blocks(n: usize, moves: usize, height: usize) -> Chart {
     }
     // More moves up change nothing: none leads below the block's value or to an earlier step.
     filled(Chart { positions }, moves, |from, to, _| to >= from)
+}
+
+/// Positions of rest alone, each disturbed into the one below: as many values as positions, and no meant move at all.
+pub fn rest_chain(n: usize, moves: usize) -> Chart {
+    let position = |number: u16| Position {
+        owner: Owner::Nobody,
+        safe: number > 0,
+        meant: vec![],
+        disturbances: vec![number.saturating_sub(1)],
+    };
+    let chart = Chart { positions: (0..n as u16).map(position).collect() };
+    // Disturbances that go up reach no smaller value.
+    filled(chart, moves, |from, to, _| to >= from)
 }
 
 /// The console's positions alone, all safe and without disturbances: every move is good.

@@ -94,7 +94,7 @@ fn weighed(chart: &[u8], choices: &[u16], worths: &mut [u16]) -> Result<(), Refu
     }
     let (mut values, mut steps): (Row, Row) = ([NONE; POSITIONS], [NONE; POSITIONS]);
     // At O one meant move is left, so its target decides.
-    let follows = |from: usize, to: u16| !board.console[from] || choices[from] == to;
+    let follows = |from: usize, to: u16| !board.console(from) || choices[from] == to;
     rounds::place(&board, &mut values, &mut steps, follows);
     worths[..n].copy_from_slice(&values[..n]);
     Ok(())
@@ -125,7 +125,7 @@ fn listed(chart: &[u8], buffer: &mut [u8]) -> Result<usize, Refusal> {
 fn solve(board: &Board, plate: &mut Plate) {
     let rounds = place(board, &mut plate.values, &mut plate.steps);
     for v in 0..board.n {
-        if board.console[v] {
+        if board.console(v) {
             plate.choices[v] = greatest(board.meant(v), &plate.values);
         }
     }
@@ -141,7 +141,7 @@ fn place(board: &Board, values: &mut Row, steps: &mut Row) -> u16 {
     // At O the last meant target decides.
     let follows = |from: usize, _| {
         left[from] -= 1;
-        !board.console[from] || left[from] == 0
+        !board.console(from) || left[from] == 0
     };
     rounds::place(board, values, steps, follows)
 }

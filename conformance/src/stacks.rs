@@ -1,7 +1,7 @@
 //! The stack that each of the library's jobs uses.
 
-use crate::capi::{self, Run, NONE};
-use crate::chart::{MOVES, POSITIONS};
+use crate::capi::{self, Run};
+use crate::chart::{Owner, Position, MOVES, POSITIONS};
 use crate::measure::stack;
 use crate::model::Subject;
 use crate::tally::JOBS;
@@ -22,7 +22,7 @@ pub fn stacks(text: &[u8]) -> Vec<(&'static str, usize)> {
     let mut sheet = [0u8; 12 * MOVES];
     let taken = |number| assert_eq!(number, 0, "nothing was refused");
     let run = Run { position: 0, seen: 0, initial: 0 };
-    let to = if choices[0] == NONE { chart.positions[0].meant[0] } else { choices[0] };
+    let to = follower(&chart.positions[0], choices[0]);
     let bytes = [
         stack(|| taken(capi::value(text, values, others, steps).refusal.number)),
         stack(|| taken(capi::write(text, &mut written).refusal.number)),
@@ -35,4 +35,13 @@ pub fn stacks(text: &[u8]) -> Vec<(&'static str, usize)> {
         stack(|| taken(capi::good_moves(text, &mut sheet).refusal.number)),
     ];
     JOBS.into_iter().zip(bytes).collect()
+}
+
+/// A position that can follow one, whose choice is given.
+fn follower(position: &Position, choice: u16) -> u16 {
+    match position.owner {
+        Owner::Console => choice,
+        Owner::Lane => position.meant[0],
+        Owner::Nobody => position.disturbances[0],
+    }
 }

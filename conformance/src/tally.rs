@@ -1,14 +1,15 @@
-//! What was tried: inputs, calls, how often each job gave each refusal, and what was seen of blanks and of good moves.
+//! What was tried: inputs, calls, how often each job gave each refusal, and what was seen of blanks, of good moves and of
+//! positions of rest.
 
-use crate::{blanks, sheets};
+use crate::{blanks, rests, sheets};
 
 /// The jobs, in the order of the header.
 pub const JOBS: [&str; 9] = ["value", "write", "read", "check", "weigh", "compare", "start", "report", "good"];
 
 /// The refusals of the table, with 0 for none.
-const NUMBERS: usize = 17;
+const NUMBERS: usize = 18;
 
-/// The refusals above 9 that each job has.
+/// The refusals from 10 to 16 that each job has.
 const BEYOND: [&[usize]; JOBS.len()] =
     [&[10], &[10], &[10, 11], &[11, 14], &[10, 12], &[10, 11, 12, 14], &[11, 13, 14], &[11, 13, 15, 16], &[10]];
 
@@ -35,6 +36,9 @@ pub struct Tally {
     /// Positional controllers all of whose choices are listed, and those with another choice.
     pub listed: u64,
     pub unlisted: u64,
+    /// How often each of the sights of positions of rest was seen, in charts and in calls.
+    pub rests: [u64; rests::CHARTS.len()],
+    pub rest_calls: [u64; rests::CALLS.len()],
 }
 
 impl Tally {
@@ -47,18 +51,12 @@ impl Tally {
         self.pairs_refused += other.pairs_refused;
         self.listed += other.listed;
         self.unlisted += other.unlisted;
-        for (sum, part) in self.refusals.iter_mut().flatten().zip(other.refusals.iter().flatten()) {
-            *sum += part;
-        }
-        for (sum, part) in self.conditions.iter_mut().zip(&other.conditions) {
-            *sum += part;
-        }
-        for (sum, part) in self.blanks.iter_mut().zip(&other.blanks) {
-            *sum += part;
-        }
-        for (sum, part) in self.sheets.iter_mut().zip(&other.sheets) {
-            *sum += part;
-        }
+        add_each(self.refusals.as_flattened_mut(), other.refusals.as_flattened());
+        add_each(&mut self.conditions, &other.conditions);
+        add_each(&mut self.blanks, &other.blanks);
+        add_each(&mut self.sheets, &other.sheets);
+        add_each(&mut self.rests, &other.rests);
+        add_each(&mut self.rest_calls, &other.rest_calls);
     }
 
     /// Prints how often each job gave each refusal.
@@ -84,6 +82,8 @@ impl Tally {
         println!("pairs of blank marks and 0: {} taken, {} refused", self.pairs_taken, self.pairs_refused);
         print_sights("good moves", &sheets::SIGHTS, &self.sheets);
         println!("controllers: {} with listed choices only, {} with others", self.listed, self.unlisted);
+        print_sights("charts and R", &rests::CHARTS, &self.rests);
+        print_sights("calls at R", &rests::CALLS, &self.rest_calls);
     }
 
     /// What was seen too seldom for this to be a test of it, if all counts of inputs were divided by `divisor`.
@@ -105,11 +105,8 @@ impl Tally {
         }
         want(self.agreed, "agreement of worths and values".to_string());
         want(self.differed, "difference of worths and values".to_string());
-        for (name, count) in blanks::SIGHTS.iter().zip(self.blanks) {
-            want(count, format!("a blank, {name},"));
-        }
-        for (name, count) in sheets::SIGHTS.iter().zip(self.sheets) {
-            want(count, format!("a sheet of good moves, {name},"));
+        for (of, names, counts) in self.sights() {
+            names.iter().zip(counts).for_each(|(name, &count)| want(count, format!("{of}, {name},")));
         }
         want(self.listed, "a controller with listed choices only".to_string());
         want(self.unlisted, "a controller with a choice that is not listed".to_string());
@@ -117,6 +114,23 @@ impl Tally {
         want(self.pairs_refused, "a pair of blank marks and 0 that is refused".to_string());
         missing
     }
+
+    /// What is seen of inputs and calls beside the refusals.
+    fn sights(&self) -> [Sights<'_>; 4] {
+        [
+            ("a blank", &blanks::SIGHTS, &self.blanks),
+            ("a sheet of good moves", &sheets::SIGHTS, &self.sheets),
+            ("a chart and R", &rests::CHARTS, &self.rests),
+            ("a call at R", &rests::CALLS, &self.rest_calls),
+        ]
+    }
+}
+
+/// Sights of one kind: the kind, their names and how often each was seen.
+type Sights<'a> = (&'static str, &'static [&'static str], &'a [u64]);
+
+fn add_each(sums: &mut [u64], parts: &[u64]) {
+    sums.iter_mut().zip(parts).for_each(|(sum, part)| *sum += part);
 }
 
 fn print_sights(of: &str, names: &[&str], counts: &[u64]) {
@@ -124,7 +138,7 @@ fn print_sights(of: &str, names: &[&str], counts: &[u64]) {
     sights.chunks(4).for_each(|some| println!("{of}: {}", some.join(", ")));
 }
 
-/// Whether a job has a refusal. All have 1 to 9.
+/// Whether a job has a refusal. All have 1 to 9 and 17, the chart's.
 fn has(job: usize, number: usize) -> bool {
-    number < 10 || BEYOND[job].contains(&number)
+    number < 10 || number == 17 || BEYOND[job].contains(&number)
 }

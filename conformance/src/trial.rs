@@ -4,7 +4,7 @@ use crate::capi::{self, Refusal, Run, NONE};
 use crate::chart::Chart;
 use crate::model::{plate_text, Plate, Subject};
 use crate::tally::{Tally, JOBS};
-use crate::{blanks, sheets, solver};
+use crate::{blanks, rests, sheets, solver};
 use std::fmt::Debug;
 
 /// How many elements before and after what is lent are watched too.
@@ -74,12 +74,22 @@ pub struct Trial {
 }
 
 impl Trial {
-    /// Counts an input, and what its chart shows of blanks.
+    /// Counts an input, and what its chart shows of blanks and of positions of rest.
     pub fn input(&mut self, subject: &Subject) {
         let answer = subject.chart().err().unwrap_or_default();
         self.tally.inputs += 1;
         for (count, seen) in self.tally.blanks.iter_mut().zip(blanks::sights(subject.text, answer)) {
             *count += u64::from(seen);
+        }
+        for (count, seen) in self.tally.rests.iter_mut().zip(rests::charts(subject)) {
+            *count += u64::from(seen);
+        }
+    }
+
+    /// Counts what a call shows at a position of rest.
+    fn at_rest(&mut self, sight: Option<usize>) {
+        if let Some(place) = sight {
+            self.tally.rest_calls[place] += 1;
         }
     }
 
@@ -124,6 +134,7 @@ impl Trial {
         let answer = subject.check(plate);
         let got = capi::check(subject.text, plate);
         self.settle(3, answer, got == answer, || show(3, subject, plate, &Given::default(), &answer, &got));
+        self.at_rest(rests::checked(subject, answer));
         if answer.number == 0 {
             accepted(subject, plate);
         }
@@ -137,6 +148,7 @@ impl Trial {
         self.settle(4, answer, got == answer && lent.holds(&worths), || {
             show(4, subject, &[], &given, &(answer, &worths), &(got, lent.shown()))
         });
+        self.at_rest(rests::weighed(subject, choices, answer));
     }
 
     pub fn compare(&mut self, subject: &Subject, plate: &[u8], choices: &[u16]) {
@@ -164,6 +176,7 @@ impl Trial {
         let got = capi::report(run, subject.text, plate, to);
         let given = Given { run: Some(run), position: Some(to), ..Given::default() };
         self.settle(7, answer.refusal, got == answer, || show(7, subject, plate, &given, &answer, &got));
+        self.at_rest(rests::reported(subject, run, answer.refusal));
         answer.run
     }
 

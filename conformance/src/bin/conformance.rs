@@ -1,11 +1,12 @@
 //! The test: the library, through its C interface, against the model. It ends with status 1 at the first mismatch, and
-//! also if a refusal, a condition, a use of blanks or a kind of sheet was hardly ever seen, or if a call wants more stack
-//! than the header says. A number as the argument divides the counts of inputs, for a quick look.
+//! also if a refusal, a condition, a use of blanks, a kind of sheet or a position of rest of some kind was hardly ever seen,
+//! or if a call wants more stack than the header says. A number as the argument divides the counts of inputs, for a quick
+//! look.
 
 use conformance::blanks::leave_out;
 use conformance::chart::{MOVES, POSITIONS};
 use conformance::parts::{controllers, damaged, drawn, examples, pairs, small, Share};
-use conformance::shapes::{all_good, blocks, lane_chain};
+use conformance::shapes::{all_good, blocks, lane_chain, rest_chain};
 use conformance::stacks::{stacks, MOST};
 use conformance::tally::Tally;
 use std::process::ExitCode;
@@ -39,7 +40,12 @@ fn main() -> ExitCode {
 
 /// The jobs that want more stack on a full chart than the header says, be its safe marks 0 or blank.
 fn deep_calls() -> impl Iterator<Item = String> {
-    let charts = [lane_chain(POSITIONS, MOVES), blocks(POSITIONS, MOVES, 16), all_good(POSITIONS, MOVES)];
+    let charts = [
+        lane_chain(POSITIONS, MOVES),
+        rest_chain(POSITIONS, MOVES),
+        blocks(POSITIONS, MOVES, 16),
+        all_good(POSITIONS, MOVES),
+    ];
     let charts = charts.map(|chart| chart.text());
     let blank = charts.clone().map(|mut text| {
         leave_out(&mut text, |_| true);

@@ -27,7 +27,7 @@ fn broken(position: &Position, v: usize, plate: &Plate) -> Option<u8> {
         (step == NONE) == (value == NONE),
         match position.owner {
             Owner::Console => position.meant.contains(&choice),
-            Owner::Lane => choice == NONE,
+            Owner::Lane | Owner::Nobody => choice == NONE,
         },
     ];
     if let Some(first) = conditions.iter().position(|&holds| !holds) {
@@ -44,9 +44,11 @@ fn broken(position: &Position, v: usize, plate: &Plate) -> Option<u8> {
 fn holds(position: &Position, value: u16, choice: u16, plate: &Plate) -> bool {
     let at_least = |to: u16, least: u16| plate.values[usize::from(to)] >= least;
     let less_one = if value == NONE { NONE } else { value.saturating_sub(1) };
+    let disturbances_hold = || position.disturbances.iter().all(|&to| at_least(to, less_one));
     match position.owner {
-        Owner::Console => at_least(choice, value) && position.disturbances.iter().all(|&to| at_least(to, less_one)),
+        Owner::Console => at_least(choice, value) && disturbances_hold(),
         Owner::Lane => position.meant.iter().all(|&to| at_least(to, value)),
+        Owner::Nobody => disturbances_hold(),
     }
 }
 
@@ -58,5 +60,6 @@ fn ruin(position: &Position, v: usize, plate: &Plate) -> bool {
     match position.owner {
         Owner::Console => position.disturbances.iter().any(smaller) || position.meant.iter().all(earlier),
         Owner::Lane => position.meant.iter().any(earlier),
+        Owner::Nobody => position.disturbances.iter().any(smaller),
     }
 }

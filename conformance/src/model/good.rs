@@ -2,11 +2,12 @@
 
 use crate::chart::{push_line, Chart, Owner, Position};
 
-/// The targets of each position's good moves: at O the meant targets that have at least the position's own value, at L none.
+/// The targets of each position's good moves: at O the meant targets that have at least the position's own value, at L and at
+/// R none.
 pub fn targets(chart: &Chart, values: &[u16]) -> Vec<Vec<u16>> {
     let good = |(position, &value): (&Position, &u16)| match position.owner {
         Owner::Console => position.meant.iter().copied().filter(|&to| values[usize::from(to)] >= value).collect(),
-        Owner::Lane => Vec::new(),
+        Owner::Lane | Owner::Nobody => Vec::new(),
     };
     chart.positions.iter().zip(values).map(good).collect()
 }

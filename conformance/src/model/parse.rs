@@ -1,4 +1,4 @@
-//! From a chart's text to the chart, or to refusal 1 to 9 with its line.
+//! From a chart's text to the chart, or to refusal 1 to 9 or 17 with its line.
 
 use super::refused_at;
 use crate::capi::Refusal;
@@ -20,9 +20,17 @@ pub fn parse(text: &[u8]) -> Result<Chart, Refusal> {
     for line in n + 1..text.len() / LINE {
         before = Some(add_move(&mut chart, text, line, before)?);
     }
-    match chart.positions.iter().position(|p| p.meant.is_empty()) {
+    match chart.positions.iter().position(lacks_meant) {
         Some(lowest) => Err(refused_at(9, 1 + lowest)),
         None => Ok(chart),
+    }
+}
+
+/// Whether a position has no meant move and should have one.
+fn lacks_meant(position: &Position) -> bool {
+    match position.owner {
+        Owner::Console | Owner::Lane => position.meant.is_empty(),
+        Owner::Nobody => false,
     }
 }
 
@@ -40,16 +48,16 @@ fn counted(text: &[u8]) -> Result<usize, Refusal> {
 
 /// A position line, whose moves come later.
 fn position(text: &[u8], line: usize) -> Result<Position, Refusal> {
-    let (letter, number, mark) = fields(text, line, b"OL", mark)?;
+    let (letter, number, mark) = fields(text, line, b"OLR", mark)?;
     if number != line - 1 || mark > 1 {
         return Err(refused_at(5, line));
     }
-    Ok(Position {
-        owner: if letter == b'O' { Owner::Console } else { Owner::Lane },
-        safe: mark == 0,
-        meant: Vec::new(),
-        disturbances: Vec::new(),
-    })
+    let owner = match letter {
+        b'O' => Owner::Console,
+        b'L' => Owner::Lane,
+        _ => Owner::Nobody,
+    };
+    Ok(Position { owner, safe: mark == 0, meant: Vec::new(), disturbances: Vec::new() })
 }
 
 /// What the move lines rise by: from, then M before D, then to.
@@ -62,8 +70,10 @@ fn add_move(chart: &mut Chart, text: &[u8], line: usize, before: Option<Rank>) -
         return Err(refused_at(6, line));
     }
     let position = &mut chart.positions[from];
-    if disturbance && position.owner == Owner::Lane {
-        return Err(refused_at(7, line));
+    match (position.owner, disturbance) {
+        (Owner::Lane, true) => return Err(refused_at(7, line)),
+        (Owner::Nobody, false) => return Err(refused_at(17, line)),
+        _ => {}
     }
     let rank = (from, disturbance, to);
     if before.is_some_and(|before| rank <= before) {

@@ -28,6 +28,7 @@ pub fn report(chart: &Chart, run: Run, plate: &[u8], to: usize) -> Result<Step, 
     let follows = match position.owner {
         Owner::Lane => meant,
         Owner::Console => meant && chosen,
+        Owner::Nobody => false,
     };
     if follows {
         return Ok(holding(&plate, Run { position: to, ..run }));

@@ -73,6 +73,8 @@ fn held(chart: &Chart, weaker: &[bool]) -> Vec<bool> {
                     position.meant.iter().any(|to| within(&set, to))
                         && position.disturbances.iter().all(|to| within(weaker, to))
                 }
+                // A play may stop here: nothing but a disturbance leaves.
+                Owner::Nobody => position.disturbances.iter().all(|to| within(weaker, to)),
             };
             if set[v] && !stays {
                 set[v] = false;
@@ -95,7 +97,10 @@ fn rounds(chart: &Chart) -> Vec<Option<(u16, u16)>> {
                 return !position.safe;
             }
             let below = |to: &u16| placed[usize::from(*to)].is_some_and(|(value, _)| value == k - 1);
-            position.owner == Owner::Console && position.disturbances.iter().any(below)
+            match position.owner {
+                Owner::Console | Owner::Nobody => position.disturbances.iter().any(below),
+                Owner::Lane => false,
+            }
         });
         if first.is_empty() {
             break;
@@ -106,6 +111,7 @@ fn rounds(chart: &Chart) -> Vec<Option<(u16, u16)>> {
             let next = round(chart, &placed, |position| match position.owner {
                 Owner::Lane => position.meant.iter().any(gone),
                 Owner::Console => position.meant.iter().all(gone),
+                Owner::Nobody => false,
             });
             if next.is_empty() {
                 break;
@@ -127,14 +133,18 @@ fn place(placed: &mut [Option<(u16, u16)>], round: &[usize], pair: (u16, u16)) {
     }
 }
 
-/// The meant target of greatest value, the lowest number among equals; none at L.
+/// The meant target of greatest value, the lowest number among equals; none at L and at R.
 fn choice(position: &Position, values: &[u16]) -> u16 {
-    let value = |to: &u16| values[usize::from(*to)];
-    if position.owner == Owner::Lane {
-        return NONE;
+    match position.owner {
+        Owner::Console => best(&position.meant, values),
+        Owner::Lane | Owner::Nobody => NONE,
     }
-    let greatest = position.meant.iter().map(value).max();
-    *position.meant.iter().find(|to| Some(value(to)) == greatest).expect("there is a meant move")
+}
+
+fn best(targets: &[u16], values: &[u16]) -> u16 {
+    let value = |to: &u16| values[usize::from(*to)];
+    let greatest = targets.iter().map(value).max();
+    *targets.iter().find(|to| Some(value(to)) == greatest).expect("there is a meant move")
 }
 
 /// The numbers of a plate's first line, from its other lines.

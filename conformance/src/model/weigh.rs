@@ -4,11 +4,11 @@ use super::refused;
 use crate::capi::{Refusal, NONE};
 use crate::chart::{Chart, Owner, Position};
 
-/// Refusal 12: a meant target at O, 65,535 at L. Numbers past the last position are nobody's choices.
+/// Refusal 12: a meant target at O, 65,535 at L and at R. Numbers past the last position are nobody's choices.
 pub fn legal(chart: &Chart, choices: &[u16]) -> Result<(), Refusal> {
     let fits = |position: &Position, choice: u16| match position.owner {
         Owner::Console => position.meant.contains(&choice),
-        Owner::Lane => choice == NONE,
+        Owner::Lane | Owner::Nobody => choice == NONE,
     };
     if chart.positions.iter().zip(choices).all(|(position, &choice)| fits(position, choice)) {
         return Ok(());
@@ -43,9 +43,11 @@ pub fn least_worths<'a>(chart: &Chart, given: impl Fn(usize) -> &'a [u16]) -> Ve
 /// The least cost of an unsafe play that begins with a move from this position.
 fn through(position: &Position, given: &[u16], worths: &[u16]) -> u16 {
     let least = |list: &[u16]| list.iter().map(|&to| worths[usize::from(to)]).min().unwrap_or(NONE);
+    // One more than "ever" stays "ever".
+    let disturbed = least(&position.disturbances).saturating_add(1);
     match position.owner {
         Owner::Lane => least(&position.meant),
-        // One more than "ever" stays "ever".
-        Owner::Console => least(given).min(least(&position.disturbances).saturating_add(1)),
+        Owner::Console => least(given).min(disturbed),
+        Owner::Nobody => disturbed,
     }
 }

@@ -13,14 +13,11 @@ const SAMPLE: usize = 20_000;
 pub fn part(share: Share) -> Tally {
     let mut trial = Trial::default();
     for n in 1..=2 {
-        for number in (share.first..small_charts(n)).step_by(share.shares) {
-            one(&mut trial, &small_chart(n, number));
-        }
+        let numbers = (share.first..small_charts(n)).step_by(share.shares);
+        numbers.filter_map(|number| small_chart(n, number)).for_each(|chart| one(&mut trial, &chart));
     }
-    for input in share.of(SAMPLE) {
-        let number = Random::new(0x2000_0000 + input as u64).below(small_charts(3));
-        one(&mut trial, &small_chart(3, number));
-    }
+    let sample = share.of(SAMPLE).map(|input| Random::new(0x2000_0000 + input as u64).below(small_charts(3)));
+    sample.filter_map(|number| small_chart(3, number)).for_each(|chart| one(&mut trial, &chart));
     trial.tally
 }
 

@@ -3,7 +3,7 @@
 use super::random_choices;
 use crate::blanks::BLANK;
 use crate::capi::NONE;
-use crate::chart::{held, push_number, Chart, MOVES, POSITIONS};
+use crate::chart::{held, push_number, Chart, Position, MOVES, POSITIONS};
 use crate::model::{summed, Plate};
 use crate::random::Random;
 
@@ -132,7 +132,7 @@ fn number(random: &mut Random) -> [u8; 5] {
     field(*random.pick(&[small, small, small, 0, 1, 2, 511, 512, 513, 4096, 4097, 65_535, 99_999]))
 }
 
-fn field(number: usize) -> [u8; 5] {
+pub fn field(number: usize) -> [u8; 5] {
     let mut text = Vec::new();
     push_number(&mut text, number);
     text.try_into().expect("a field has five bytes")
@@ -146,15 +146,20 @@ fn nudge(random: &mut Random, text: &mut [u8; 5]) {
     }
 }
 
+/// The count of positions by a chart's first line, if there are as many lines and one more.
+pub fn counted(text: &[u8]) -> Option<usize> {
+    text.get(1..6).and_then(held).filter(|&n| n > 0 && text.len() >= CHART * (n + 2))
+}
+
 /// One damage to a chart's text of a kind that only charts have.
 pub fn hurt_chart(random: &mut Random, text: &mut Vec<u8>) {
-    let Some(n) = text.get(1..6).and_then(held).filter(|&n| n > 0 && text.len() >= CHART * (n + 2)) else {
+    let Some(n) = counted(text) else {
         return;
     };
     let line = CHART * random.between(1, n);
     match random.below(5) {
         0 => text[line + 6..line + 11].copy_from_slice(&field(random.below(4))),
-        1 => text[line] ^= b'O' ^ b'L',
+        1 => text[line] = if text[line] == b'O' { b'L' } else { b'O' },
         2 => {
             let from = field(random.below(n));
             let moves = text.split_off(CHART * (n + 1));
@@ -189,7 +194,7 @@ fn make_blank(random: &mut Random, field: &mut [u8; 5]) {
 /// beside it or after it.
 pub fn hurt_chart_by_blanks(random: &mut Random, text: &mut [u8]) {
     let count = text.len() / CHART;
-    let Some(n) = text.get(1..6).and_then(held).filter(|&n| n > 0 && n + 1 < count) else {
+    let Some(n) = counted(text) else {
         return;
     };
     let (position, later) = (random.between(1, n), random.between(n + 1, count - 1));
@@ -238,7 +243,7 @@ pub fn alter(random: &mut Random, chart: &Chart, plate: &mut Plate) {
         0..=1 => plate.values[v] = other(random, plate.values[v], plate.values[w]),
         2..=3 => plate.steps[v] = other(random, plate.steps[v], plate.steps[w]),
         4 => plate.choices[v] = *random.pick(&[NONE, v as u16, w as u16]),
-        5 => plate.choices[v] = *random.pick(&chart.positions[v].meant),
+        5 => plate.choices[v] = some_target(random, &chart.positions[v]),
         6 => plate.choices = random_choices(random, chart),
         7 => alter_first_line(random, plate),
         8 => plate.values.iter_mut().for_each(|value| *value = lifted(*value, 1, 1)),
@@ -251,6 +256,15 @@ pub fn alter(random: &mut Random, chart: &Chart, plate: &mut Plate) {
         12 => (plate.values[v], plate.steps[v]) = (NONE, NONE),
         _ => plate.steps[v] = random.below(6) as u16,
     }
+}
+
+/// The target of a meant move, and at R of a disturbance; none where there is no move.
+fn some_target(random: &mut Random, position: &Position) -> u16 {
+    let list = if position.meant.is_empty() { &position.disturbances } else { &position.meant };
+    if list.is_empty() {
+        return NONE;
+    }
+    *random.pick(list)
 }
 
 /// A number near or far from the one that was there, or none.

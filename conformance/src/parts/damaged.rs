@@ -8,7 +8,7 @@ use crate::random::Random;
 use crate::tally::Tally;
 use crate::trial::Trial;
 
-const INPUTS: usize = 420_000;
+const INPUTS: usize = 480_000;
 
 pub fn part(share: Share) -> Tally {
     let mut trial = Trial::default();

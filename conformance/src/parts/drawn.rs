@@ -7,7 +7,8 @@ use crate::capi::{Run, NONE};
 use crate::chart::{Chart, Owner, MOVES, POSITIONS};
 use crate::model::Subject;
 use crate::random::Random;
-use crate::shapes::{blocks, console_chain, drawn, filled, lane_chain, renumbered, stirred, Shape, SHAPES};
+use crate::shapes::{blocks, console_chain, filled, lane_chain, renumbered, rest_chain, stirred, Shape, SHAPES};
+use crate::shapes::{drawn_or_rested, perhaps_rested};
 use crate::tally::Tally;
 use crate::trial::Trial;
 
@@ -28,7 +29,7 @@ fn chart(random: &mut Random, input: usize) -> Chart {
     let shape = *random.pick(&SHAPES);
     let chart = match input % 1000 {
         0 => long_chart(random),
-        1 => filled(drawn(random, POSITIONS, shape), MOVES, |_, _, _| true),
+        1 => filled(drawn_or_rested(random, POSITIONS, shape), MOVES, |_, _, _| true),
         2..=5 => sized(random, 129, POSITIONS, shape),
         6..=11 => sized(random, 41, 128, shape),
         12..=150 => high_chart(random),
@@ -42,7 +43,7 @@ fn chart(random: &mut Random, input: usize) -> Chart {
 
 fn sized(random: &mut Random, least: usize, most: usize, shape: Shape) -> Chart {
     let n = random.between(least, most);
-    drawn(random, n, shape)
+    drawn_or_rested(random, n, shape)
 }
 
 /// Up to 40 positions and about as many rounds or values, with some moves that lead elsewhere.
@@ -50,15 +51,17 @@ fn high_chart(random: &mut Random) -> Chart {
     let (n, height) = (random.between(2, 40), random.between(1, 4));
     let moves = n * random.between(1, 3);
     let times = random.below(6);
-    stirred(random, blocks(n, moves, height), times)
+    let chart = perhaps_rested(random, blocks(n, moves, height));
+    stirred(random, chart, times)
 }
 
 /// As many rounds as there can be.
 fn long_chart(random: &mut Random) -> Chart {
-    match random.below(4) {
+    match random.below(5) {
         0 => lane_chain(POSITIONS, MOVES),
         1 => console_chain(POSITIONS, MOVES),
         2 => blocks(POSITIONS, MOVES, 1),
+        3 => rest_chain(POSITIONS, MOVES),
         _ => {
             let height = random.between(2, 40);
             blocks(POSITIONS, MOVES, height)
@@ -131,15 +134,17 @@ fn run(trial: &mut Trial, random: &mut Random, chart: &Chart, subject: &Subject,
     }
 }
 
-/// Where the machine went: mostly by a move, sometimes where it can't.
+/// Where the machine went: mostly by a move, sometimes where it can't. An undisturbed position of rest has no move.
 fn went(random: &mut Random, chart: &Chart, subject: &Subject, run: Run) -> usize {
     let position = &chart.positions[run.position];
-    let to = match random.below(10) {
-        0 => return random.below(chart.len() + 2),
-        1 => *random.pick(&position.meant),
-        2..=5 if !position.disturbances.is_empty() => *random.pick(&position.disturbances),
-        _ if position.owner == Owner::Console => subject.valuation(chart).choices[run.position],
-        _ => *random.pick(&position.meant),
+    let (meant, disturbances) = (&position.meant, &position.disturbances);
+    let to = match (random.below(10), position.owner) {
+        (1, _) if !meant.is_empty() => *random.pick(meant),
+        (2..=5, _) if !disturbances.is_empty() => *random.pick(disturbances),
+        (6..=9, Owner::Nobody) if !disturbances.is_empty() => *random.pick(disturbances),
+        (0, _) | (_, Owner::Nobody) => return random.below(chart.len() + 2),
+        (_, Owner::Console) => subject.valuation(chart).choices[run.position],
+        (_, Owner::Lane) => *random.pick(meant),
     };
     usize::from(to)
 }

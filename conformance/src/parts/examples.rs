@@ -1,11 +1,13 @@
 //! Part 0: the model itself gives what document 01 says of its example, of the charts at the edges, and of the refusals'
-//! examples, and what document 02 says of blanks (order 1) and of good moves (order 2).
+//! examples, and what document 02 says of blanks (order 1), of good moves (order 2) and of positions of rest (order 4).
+
+mod rests;
 
 use crate::blanks::leave_out;
 use crate::capi::{Refusal, Run, NONE};
 use crate::chart::{MOVES, POSITIONS};
 use crate::model::Subject;
-use crate::shapes::{all_good, blocks, console_chain, lane_chain};
+use crate::shapes::{all_good, blocks, console_chain, lane_chain, rest_chain};
 use crate::tally::Tally;
 use crate::trial::Trial;
 
@@ -85,9 +87,12 @@ const EDGES: [Edge; 17] = [
 /// Positions of the printed chart whose marks are left out: the first, one in the middle, the last, all that are safe.
 const LEFT_OUT: [&[usize]; 4] = [&[0], &[2], &[4], &[0, 1, 2, 4]];
 
-/// The table's examples of refusals 1 to 9: the lines of a chart, the number and the line. Edges k and l are 9 and 8.
+/// A chart that is refused: its lines, the number and the line.
+type Refused = (&'static [&'static str], u32, usize);
+
+/// The table's examples of refusals 1 to 9. Edges k and l are 9 and 8.
 #[rustfmt::skip]
-const REFUSED: [(&[&str], u32, usize); 9] = [
+const REFUSED: [Refused; 9] = [
     (&[], 1, 0),
     (&["H   05    8"], 2, 0),
     (&["H    0    1"], 3, 0),
@@ -102,7 +107,7 @@ const REFUSED: [(&[&str], u32, usize); 9] = [
 /// Blanks in each column that is no mark; marks that are nearly blank; and every refusal that a chart with a blank mark may
 /// still get, on its line or later.
 #[rustfmt::skip]
-const BLANKS: [(&[&str], u32, usize); 24] = [
+const BLANKS: [Refused; 24] = [
     (&["H         1", "O    0    0", "M    0    0"], 2, 0),
     (&["H    1     ", "O    0    0", "M    0    0"], 2, 0),
     (&["H          ", "O    0    0", "M    0    0"], 2, 0),
@@ -131,11 +136,11 @@ const BLANKS: [(&[&str], u32, usize); 24] = [
 
 pub fn part() -> Tally {
     let mut trial = Trial::default();
-    for (name, lines, expected, sheet) in EDGES {
+    for (name, lines, expected, sheet) in EDGES.into_iter().chain(rests::EDGES) {
         edge(&mut trial, name, &text(lines), expected);
         good_moves(&mut trial, name, &text(lines), &text(sheet));
     }
-    for (lines, number, line) in REFUSED.into_iter().chain(BLANKS) {
+    for (lines, number, line) in REFUSED.into_iter().chain(BLANKS).chain(rests::REFUSED) {
         let chart = text(lines);
         let subject = Subject::new(&chart);
         let refusal = Refusal { number, line, ..Refusal::default() };
@@ -154,6 +159,7 @@ pub fn part() -> Tally {
         printed(&mut trial, &chart);
     }
     later_refusals(&mut trial);
+    rests::part(&mut trial);
     longest(&mut trial);
     trial.tally
 }
@@ -234,10 +240,10 @@ fn later_refusals(trial: &mut Trial) {
     trial.report(&subject, long, &plate, 2);
 }
 
-/// The long charts are as long as they claim: 512 positions, 4,096 moves, 512 rounds; and one has 512 values.
+/// The long charts are as long as they claim: 512 positions, 4,096 moves, 512 rounds; and two have 512 values.
 fn longest(trial: &mut Trial) {
-    let ladder = blocks(POSITIONS, MOVES, 1);
-    for chart in [lane_chain(POSITIONS, MOVES), console_chain(POSITIONS, MOVES), ladder.clone()] {
+    let (ladder, resting) = (blocks(POSITIONS, MOVES, 1), rest_chain(POSITIONS, MOVES));
+    for chart in [lane_chain(POSITIONS, MOVES), console_chain(POSITIONS, MOVES), ladder.clone(), resting.clone()] {
         let text = chart.text();
         let subject = Subject::new(&text);
         assert_eq!((chart.len(), chart.moves()), (POSITIONS, MOVES));
@@ -246,8 +252,10 @@ fn longest(trial: &mut Trial) {
         trial.value(&subject, [POSITIONS; 3]);
         trial.write(&subject, 22 * (POSITIONS + 1));
     }
-    let text = ladder.text();
-    assert_eq!(Subject::new(&text).valuation(&ladder).first_line.highest, 511);
+    for chart in [ladder, resting] {
+        let text = chart.text();
+        assert_eq!(Subject::new(&text).valuation(&chart).first_line.highest, 511);
+    }
     longest_sheet(trial);
 }
 

@@ -6,7 +6,7 @@ use super::setting::{Besides, Setting, KINDS};
 use super::Share;
 use crate::blanks::{filled_in, leave_out};
 use crate::capi::{self, Compared, Listed, Reading, Refusal, Step, Valued, Written};
-use crate::chart::{small_chart, small_charts};
+use crate::chart::{small_chart, small_charts, Chart};
 use crate::model::Subject;
 use crate::random::Random;
 use crate::tally::{Tally, JOBS};
@@ -18,7 +18,9 @@ pub fn part(share: Share) -> Tally {
     let mut trial = Trial::default();
     for n in 1..=2 {
         for number in (share.first..small_charts(n)).step_by(share.shares) {
-            small(&mut trial, n, number);
+            if let Some(chart) = small_chart(n, number) {
+                small(&mut trial, &chart, number);
+            }
         }
     }
     for input in share.of(PAIRS) {
@@ -29,10 +31,10 @@ pub fn part(share: Share) -> Tally {
 }
 
 /// A chart of one or two positions with every set of blanks.
-fn small(trial: &mut Trial, n: usize, number: usize) {
-    for set in 1..1 << n {
+fn small(trial: &mut Trial, chart: &Chart, number: usize) {
+    for set in 1..1 << chart.len() {
         let mut random = Random::new(number as u64);
-        let mut setting = Setting::of(&mut random, small_chart(n, number));
+        let mut setting = Setting::of(&mut random, chart.clone());
         leave_out(&mut setting.chart, |v| set >> v & 1 == 1);
         pair(trial, &mut random, &setting);
     }
@@ -61,7 +63,7 @@ fn pair(trial: &mut Trial, random: &mut Random, setting: &Setting) {
     trial.input(&Subject::new(blank));
     trial.tally.calls += 2 * JOBS.len() as u64;
     match one.checked.number {
-        1..=9 => trial.tally.pairs_refused += 1,
+        1..=9 | 17 => trial.tally.pairs_refused += 1,
         _ => trial.tally.pairs_taken += 1,
     }
 }

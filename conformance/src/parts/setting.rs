@@ -3,17 +3,19 @@
 use super::damage::{alter, hurt, hurt_chart, hurt_choices, mend_chart, mend_plate, resize, CHART, PLATE};
 use super::damage::{hurt_chart_by_blanks, hurt_plate_by_blanks};
 use super::random_choices;
+use super::rest::hurt_chart_by_rest;
 use crate::blanks::leave_out_some;
 use crate::capi::{Run, NONE};
 use crate::chart::{Chart, Position, POSITIONS};
 use crate::model::{plate_text, Subject};
 use crate::random::Random;
-use crate::shapes::{drawn, SHAPES};
+use crate::shapes::{drawn_or_rested, SHAPES};
 use crate::sheets;
 
 /// What is damaged, with the jobs that are tried on it, by their places among the jobs.
-pub const KINDS: [(Kind, &[usize]); 7] = [
+pub const KINDS: [(Kind, &[usize]); 8] = [
     (Kind::Chart, &[0, 1, 2, 3, 4, 5, 6, 7, 8]),
+    (Kind::Rest, &[0, 1, 2, 3, 4, 5, 6, 7, 8]),
     (Kind::Blanks, &[0, 1, 2, 3, 4, 5, 6, 7, 8]),
     (Kind::PlateText, &[2, 3, 5, 6, 7]),
     (Kind::PlateNumbers, &[2, 3, 3, 5, 6, 7]),
@@ -25,6 +27,8 @@ pub const KINDS: [(Kind, &[usize]); 7] = [
 #[derive(Clone, Copy, PartialEq, Eq)]
 pub enum Kind {
     Chart,
+    /// A position of rest of the chart, or what becomes one.
+    Rest,
     /// Blanks in the chart or in the plate.
     Blanks,
     PlateText,
@@ -65,7 +69,7 @@ fn good_chart(random: &mut Random) -> Chart {
         _ => random.between(1, 10),
     };
     let shape = *random.pick(&SHAPES);
-    drawn(random, n, shape)
+    drawn_or_rested(random, n, shape)
 }
 
 impl Setting {
@@ -92,6 +96,7 @@ impl Setting {
     pub fn damage(&mut self, random: &mut Random, kind: Kind) {
         match kind {
             Kind::Chart => self.damage_chart(random),
+            Kind::Rest => hurt_chart_by_rest(random, &mut self.chart),
             Kind::Blanks if random.chance(80) => hurt_chart_by_blanks(random, &mut self.chart),
             Kind::Blanks => hurt_plate_by_blanks(random, &mut self.plate),
             Kind::PlateText => {
@@ -191,8 +196,8 @@ impl Setting {
         let by = |random: &mut Random, list: &[u16]| usize::from(*random.pick(list));
         match (random.below(10), moves) {
             (0..=4, Some(position)) if !position.disturbances.is_empty() => by(random, &position.disturbances),
-            (0..=7, Some(position)) => by(random, &position.meant),
-            (8, _) => random.below(self.good.len()),
+            (0..=7, Some(position)) if !position.meant.is_empty() => by(random, &position.meant),
+            (0..=8, _) => random.below(self.good.len()),
             _ => self.start(random),
         }
     }

@@ -2,14 +2,14 @@
 
 use super::{field, refused};
 use crate::capi::{Refusal, NONE};
-use crate::chart::{MOVES, POSITIONS};
+use crate::chart::{Owner, MOVES, POSITIONS};
 
 const LINE: usize = 12;
 const LONGEST: usize = LINE * (1 + POSITIONS + MOVES);
 
 pub struct Board {
     pub n: usize,
-    pub console: [bool; POSITIONS],
+    pub owner: [Owner; POSITIONS],
     pub safe: [bool; POSITIONS],
     to: [u16; MOVES],
     /// Where the moves of a group end: group 2 v + 1 has the meant moves of v, group 2 v + 2 its disturbances.
@@ -20,7 +20,7 @@ impl Board {
     pub fn empty() -> Board {
         Board {
             n: 0,
-            console: [false; POSITIONS],
+            owner: [Owner::Nobody; POSITIONS],
             safe: [false; POSITIONS],
             to: [0; MOVES],
             ends: [0; 2 * POSITIONS + 1],
@@ -39,12 +39,15 @@ impl Board {
         &self.to[..usize::from(self.ends[2 * self.n])]
     }
 
-    /// A meant target at O, none at L.
+    pub fn console(&self, v: usize) -> bool {
+        self.owner[v] == Owner::Console
+    }
+
+    /// A meant target at O, none at L and at R.
     pub fn may_choose(&self, v: usize, choice: u16) -> bool {
-        if self.console[v] {
-            self.meant(v).contains(&choice)
-        } else {
-            choice == NONE
+        match self.owner[v] {
+            Owner::Console => self.meant(v).contains(&choice),
+            Owner::Lane | Owner::Nobody => choice == NONE,
         }
     }
 
@@ -62,13 +65,15 @@ impl Board {
         for (v, line) in text.chunks_exact(LINE).enumerate() {
             let at = |number| Refusal { number, line: 1 + v, ..Refusal::default() };
             let (letter, number, mark) = fields(line, field::mark).ok_or(at(2))?;
-            if letter != b'O' && letter != b'L' {
-                return Err(at(2));
-            }
+            self.owner[v] = match letter {
+                b'O' => Owner::Console,
+                b'L' => Owner::Lane,
+                b'R' => Owner::Nobody,
+                _ => return Err(at(2)),
+            };
             if number as usize != v || mark > 1 {
                 return Err(at(5));
             }
-            self.console[v] = letter == b'O';
             self.safe[v] = mark == 0;
         }
         Ok(())
@@ -87,8 +92,10 @@ impl Board {
                 return Err(at(6));
             }
             let disturbance = letter == b'D';
-            if disturbance && !self.console[from as usize] {
-                return Err(at(7));
+            match (self.owner[from as usize], disturbance) {
+                (Owner::Lane, true) => return Err(at(7)),
+                (Owner::Nobody, false) => return Err(at(17)),
+                _ => {}
             }
             let group = 2 * from + 1 + u32::from(disturbance);
             let rank = group << 16 | to;
@@ -102,13 +109,13 @@ impl Board {
         self.close_groups()
     }
 
-    /// A group without moves ends where the one before does. Each position needs a meant move.
+    /// A group without moves ends where the one before does. Each position needs a meant move, save those of rest.
     fn close_groups(&mut self) -> Result<(), Refusal> {
         let mut end = 0;
         let mut missing = None;
         for group in 1..=2 * self.n {
             let count = self.ends[group];
-            if count == 0 && group % 2 == 1 && missing.is_none() {
+            if count == 0 && group % 2 == 1 && missing.is_none() && self.owner[group / 2] != Owner::Nobody {
                 missing = Some(1 + group / 2);
             }
             end = end.max(count);

@@ -3,7 +3,7 @@
 use super::board::Board;
 use super::{field, Row};
 use crate::capi::{FirstLine, Refusal, NONE};
-use crate::chart::POSITIONS;
+use crate::chart::{Owner, POSITIONS};
 
 pub const LINE: usize = 22;
 
@@ -112,21 +112,24 @@ impl Plate {
     /// Condition 4.
     fn holds(&self, board: &Board, v: usize) -> bool {
         let value = self.values[v];
-        if !board.console[v] {
-            return board.meant(v).iter().all(|&to| self.value_at(to) >= value);
-        }
         let less_one = value.saturating_sub(u16::from(value != NONE));
-        self.value_at(self.choices[v]) >= value && board.disturbances(v).iter().all(|&to| self.value_at(to) >= less_one)
+        let disturbances_hold = || board.disturbances(v).iter().all(|&to| self.value_at(to) >= less_one);
+        match board.owner[v] {
+            Owner::Console => self.value_at(self.choices[v]) >= value && disturbances_hold(),
+            Owner::Lane => board.meant(v).iter().all(|&to| self.value_at(to) >= value),
+            Owner::Nobody => disturbances_hold(),
+        }
     }
 
     /// Condition 5 at a safe position of finite value.
     fn ruined(&self, board: &Board, v: usize) -> bool {
         let rank = self.rank(v as u16);
-        if !board.console[v] {
-            return board.meant(v).iter().any(|&to| self.rank(to) < rank);
+        let disturbance_ruins = || board.disturbances(v).iter().any(|&to| self.value_at(to) < self.values[v]);
+        match board.owner[v] {
+            Owner::Console => disturbance_ruins() || board.meant(v).iter().all(|&to| self.rank(to) < rank),
+            Owner::Lane => board.meant(v).iter().any(|&to| self.rank(to) < rank),
+            Owner::Nobody => disturbance_ruins(),
         }
-        board.disturbances(v).iter().any(|&to| self.value_at(to) < self.values[v])
-            || board.meant(v).iter().all(|&to| self.rank(to) < rank)
     }
 
     /// Earlier positions have a smaller rank.

@@ -13,13 +13,13 @@ fn good<'a>(board: &'a Board, values: &'a Row, v: usize) -> impl Iterator<Item =
 
 /// How many good moves there are.
 pub fn lines(board: &Board, values: &Row) -> usize {
-    (0..board.n).filter(|&v| board.console[v]).map(|v| good(board, values, v).count()).sum()
+    (0..board.n).filter(|&v| board.console(v)).map(|v| good(board, values, v).count()).sum()
 }
 
 /// Writes the good moves into the first lines of a buffer that has room for them.
 pub fn write(board: &Board, values: &Row, buffer: &mut [u8]) {
     let mut place = 0;
-    for v in (0..board.n).filter(|&v| board.console[v]) {
+    for v in (0..board.n).filter(|&v| board.console(v)) {
         for to in good(board, values, v) {
             put_line(&mut buffer[place..place + LINE], v as u16, to);
             place += LINE;

@@ -11,9 +11,10 @@ use lib.ListN.{length}
 use lib.Dec.{T, ltb, eqb}
 use borrow.Author.Tests.{ltb-true, ltb-false, eqb-true, ne-eqb}
 use Rattle.game.specs.Members.{member-at, at-member}
-use Rattle.game.specs.Arena.{Arena, Position, Move, size, moveAt, noMove, meantMove, disturbanceMove, Meant, mayBeDisturbed, WellFormed}
+use Rattle.game.specs.Arena.{Arena, Position, Move, size, moveAt, noMove, meantMove, disturbanceMove, controller, environment, nobody, Meant, mayBeDisturbed, hasMeant, WellFormed}
 use Rattle.chart.specs.Text.{letterAt, positionsOf, movesOf, fromAt, toAt}
 use Rattle.chart.specs.Meaning.{ownerOf, costOf, positionOn, moveOn, arenaOf, Rises, Chartable}
+use Rattle.chart.specs.Refusals.{MoveLetter}
 use Rattle.chart.specs.Examined.{above, rises, meantLine, meantIn, examined}
 use Rattle.chart.specs.Good.{GoodChart, accepted-good}
 use Rattle.chart.specs.Arenas.{arena-size, arena-moves, arena-position, arena-move}
@@ -62,7 +63,7 @@ cost-small letter = go (eqb letter 68)
     go true = omega arith
     go false = omega arith
 
--- the letter of a move that is a disturbance, and of an owner that may be disturbed
+-- the letter of a move that is a disturbance or meant, and of an owner that may be disturbed or has meant moves
 disturbance-letter : (letter c : ℕ) → costOf letter ≡ suc c → letter ≡ 68
 unfolding costOf
 disturbance-letter letter c e = go (eqb letter 68) refl
@@ -73,7 +74,27 @@ disturbance-letter letter c e = go (eqb letter 68) refl
 
 not-environment : (letter : ℕ) → (letter ≡ 76 → ⊥) → T (mayBeDisturbed (ownerOf letter))
 unfolding ownerOf
-not-environment letter h = simp (ne-eqb letter 76 h) tt
+not-environment letter h = simp (ne-eqb letter 76 h) (go (eqb letter 82))
+  where
+    go : (b : Bool) → T (mayBeDisturbed (cond b nobody controller))
+    go true = tt
+    go false = tt
+
+pub meant-letter : (letter : ℕ) → MoveLetter letter → costOf letter ≡ 0 → letter ≡ 77
+unfolding costOf
+meant-letter letter w e = ⊎-elim (λ p. p) (λ p. let z : 1 ≡ 0 = sym (ap costOf p) ∙ e in absurd (omega arith)) w
+
+not-at-rest : (letter : ℕ) → (letter ≡ 82 → ⊥) → T (hasMeant (ownerOf letter))
+unfolding ownerOf
+not-at-rest letter h = simp (ne-eqb letter 82 h) (go (eqb letter 76))
+  where
+    go : (b : Bool) → T (hasMeant (cond b environment controller))
+    go true = tt
+    go false = tt
+
+has-meant : (letter : ℕ) → T (hasMeant (ownerOf letter)) → letter ≡ 82 → ⊥
+unfolding ownerOf
+has-meant letter t e = subst (λ (x : ℕ). T (hasMeant (ownerOf x))) e t
 
 meant-cost : (letter : ℕ) → letter ≡ 77 → costOf letter ≡ 0
 unfolding costOf
@@ -116,10 +137,20 @@ module _ (text : List ℕ) (good : GoodChart text) where
         let from : fromAt text i ≡ v = ap (λ (x : Move). x .from) (w .2) in
         let inside : v < positionsOf text = omega (arith, line .from-position) in
         subst (λ (p : Position). T (mayBeDisturbed (p .owner))) (sym (arena-position text v inside))
-        (not-environment (letterAt text (v + 1)) (λ e. line .owner letter (ap (λ (x : ℕ). letterAt text (x + 1)) from ∙ e)));
-    meant = λ v h.
+        (not-environment (letterAt text (v + 1)) (λ e. line .undisturbed letter (ap (λ (x : ℕ). letterAt text (x + 1)) from ∙ e)));
+    resting = λ v u k.
+        let w = move-on (meantMove v u) k in
+        let i = positionsOf text + 1 + w .0 in
+        let line = good .move i (omega arith) (omega (arith, w .1)) in
+        let letter : letterAt text i ≡ 77 = meant-letter (letterAt text i) (line .form .allowed) (ap (λ (x : Move). x .cost) (w .2)) in
+        let from : fromAt text i ≡ v = ap (λ (x : Move). x .from) (w .2) in
+        let inside : v < positionsOf text = omega (arith, line .from-position) in
+        subst (λ (p : Position). T (hasMeant (p .owner))) (sym (arena-position text v inside))
+        (not-at-rest (letterAt text (v + 1)) (λ e. line .unmeant letter (ap (λ (x : ℕ). letterAt text (x + 1)) from ∙ e)));
+    meant = λ v h t.
         let inside : v < positionsOf text = rw arena-size at h in
-        let w = meant-line text (positionsOf text) (movesOf text) v (good .meant v inside) in
+        let owner = subst (λ (p : Position). T (hasMeant (p .owner))) (arena-position text v inside) t in
+        let w = meant-line text (positionsOf text) (movesOf text) v (good .meant v inside (has-meant (letterAt text (v + 1)) owner)) in
         let i = positionsOf text + 1 + w .0 in
         (toAt text i, meant-member text (w .0) v (w .1) (w .2) (w .3));
   }

@@ -168,7 +168,7 @@ module _ (text other : List ℕ) (d : OnlyBlanksDiffer text other) where
 
   missing-same : (n m v : ℕ) → missingAt text n m v ≡ missingAt other n m v
   unfolding missingAt
-  missing-same n m v = simp (meant-same n m v)
+  missing-same n m v = simp (meant-same n m v, letter-same (v + 1))
 
   findings-same : (f g : ℕ → Finding) (count i : ℕ) → ((j : ℕ) → f j ≡ g j) → firstFault f count i ≡ firstFault g count i
   findings-same f g count i h = first-same _ _ f g Clean count i (λ j l k. (ap isClean (h j), h j))

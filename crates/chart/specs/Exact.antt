@@ -15,15 +15,15 @@ use borrow.Author.Tests.{ltb-true, ltb-false, eqb-true, eqb-false, eq-eqb}
 use Rattle.search.specs.First.{first-answered}
 use Rattle.chart.specs.Text.{letterAt, positionsOf, movesOf, fromAt}
 use Rattle.refusal.specs.Numbers.{misdrawnLine}
-use Rattle.chart.specs.Refusals.{stage, rank, PositionLine, BadLength, BadForm, OutOfSequence, BadEndpoint, BadDisturbance, OutOfOrder, WithoutMeant, Applies, Before, First}
+use Rattle.chart.specs.Refusals.{stage, rank, PositionLine, BadLength, BadForm, OutOfSequence, BadEndpoint, BadDisturbance, MeantAtRest, OutOfOrder, WithoutMeant, Applies, Before, First}
 use Rattle.chart.specs.Examined.{headerOf, lineFinding, orElse, firstFault, meantLine, meantIn, missingAt, answer, afterHeader, linesAfter, examined}
 use Rattle.chart.specs.Header.{header-accepts}
-use Rattle.chart.specs.Good.{faulty, is-clean, all-clean, missing-clean}
+use Rattle.chart.specs.Good.{faulty, is-clean, all-clean, position-clean, line-position, missing-clean}
 use Rattle.chart.specs.Accepted.{meant-line}
 use Rattle.chart.specs.LineExact.{Free, LineExact, findingOf, header-exact, line-exact}
 use Rattle.rows.specs.declared.Chart.{Chart}
 use Rattle.refusal.specs.declared.Misdrawn.{Misdrawn}
-use Rattle.refusal.specs.declared.Misdrawn.the-variants.{Length, Form, Limits, Count, Sequence, Endpoint, Disturbed, Order, NoMeant}
+use Rattle.refusal.specs.declared.Misdrawn.the-variants.{Length, Form, Limits, Count, Sequence, Endpoint, Disturbed, Resting, Order, NoMeant}
 use Rattle.chart.specs.declared.Finding.{Finding}
 use Rattle.chart.specs.declared.Finding.the-variants.{Clean, Fault}
 use Rattle.chart.specs.declared.Examination.{Examination}
@@ -57,7 +57,7 @@ data Stands (text : List ℕ) (s : Misdrawn) : Type 0 where
 
 module _ (text : List ℕ) where
   stands : (s : Misdrawn) → Applies text s → Stands text s
-  unfolding BadForm OutOfSequence BadEndpoint BadDisturbance OutOfOrder
+  unfolding BadForm OutOfSequence BadEndpoint BadDisturbance MeantAtRest OutOfOrder
   stands Length a = whole refl a
   stands (Form line) a = onLine refl (a .0)
   stands Limits a = onLine refl (omega arith)
@@ -65,6 +65,7 @@ module _ (text : List ℕ) where
   stands (Sequence line) a = onLine refl (omega (arith, a .0 .1))
   stands (Endpoint line) a = onLine refl (a .0 .1)
   stands (Disturbed line) a = onLine refl (a .0 .1)
+  stands (Resting line) a = onLine refl (a .0 .1)
   stands (Order line) a = onLine refl (a .0 .1)
   stands (NoMeant line) a = atPosition refl a
 
@@ -118,16 +119,20 @@ module _ (text : List ℕ) where
       go (onLine e k) = absurd (lines (misdrawnLine s) k s e refl tt a)
       go (atPosition e w) = (e, w)
 
-  meant-some : (i : ℕ) → WithoutMeant text i → meantIn text (positionsOf text) (movesOf text) (i - 1) ≡ true → ⊥
+  meant-some : (i : ℕ) → WithoutMeant text i → missingAt text (positionsOf text) (movesOf text) (i - 1) ≡ Clean → ⊥
   unfolding WithoutMeant
-  meant-some i w e =
-      let x = meant-line text (positionsOf text) (movesOf text) (i - 1) e in
-      w .1 (positionsOf text + 1 + x .0) (omega arith, omega (arith, x .1)) (x .2) (x .3)
+  meant-some i w clean =
+      let here : letterAt text (i - 1 + 1) ≡ letterAt text i = ap (letterAt text) (omega (arith, w .0 .0)) in
+      let other : letterAt text (i - 1 + 1) ≡ 82 → ⊥ = λ e. ⊎-elim (λ p. omega (arith, here, e, p)) (λ p. omega (arith, here, e, p)) (w .1) in
+      let x = meant-line text (positionsOf text) (movesOf text) (i - 1) (missing-clean text (positionsOf text) (movesOf text) (i - 1) clean other) in
+      w .2 (positionsOf text + 1 + x .0) (omega arith, omega (arith, x .1)) (x .2) (x .3)
 
-  meant-without : (v : ℕ) → v < positionsOf text → meantIn text (positionsOf text) (movesOf text) v ≡ false → WithoutMeant text (v + 1)
+  meant-without : (v : ℕ) → v < positionsOf text → (letterAt text (v + 1) ≡ 79) ⊎ (letterAt text (v + 1) ≡ 76) →
+      meantIn text (positionsOf text) (movesOf text) v ≡ false → WithoutMeant text (v + 1)
   unfolding WithoutMeant
-  meant-without v h e = (
+  meant-without v h owned e = (
     (omega arith, omega arith),
+    owned,
     λ j line p q.
         let k = j - (positionsOf text + 1) in
         let at : positionsOf text + 1 + k ≡ j = omega (arith, line .0) in
@@ -136,27 +141,41 @@ module _ (text : List ℕ) where
         (subst (λ (x : ℕ). letterAt text x ≡ 77) (sym at) p) (subst (λ (x : ℕ). fromAt text x ≡ v) (sym at) w),
   )
 
-  missing-fault : (v : ℕ) (r : Misdrawn) → missingAt text (positionsOf text) (movesOf text) v ≡ Fault r → (NoMeant (v + 1) ≡ r) × (meantIn text (positionsOf text) (movesOf text) v ≡ false)
+  missing-fault : (v : ℕ) (r : Misdrawn) → missingAt text (positionsOf text) (movesOf text) v ≡ Fault r →
+      (NoMeant (v + 1) ≡ r) × (letterAt text (v + 1) ≡ 82 → ⊥) × (meantIn text (positionsOf text) (movesOf text) v ≡ false)
   unfolding missingAt
-  missing-fault v r h = go (meantIn text (positionsOf text) (movesOf text) v) refl
+  missing-fault v r h = go (eqb (letterAt text (v + 1)) 82) (meantIn text (positionsOf text) (movesOf text) v) refl refl
     where
-      go : (b : Bool) → meantIn text (positionsOf text) (movesOf text) v ≡ b → (NoMeant (v + 1) ≡ r) × (meantIn text (positionsOf text) (movesOf text) v ≡ false)
-      go true e = let z : Clean ≡ Fault r = simp e at h in let y : _≡_ {A = ℕ} 0 1 = cc in absurd (omega arith)
-      go false e = let z : Fault (NoMeant (v + 1)) ≡ Fault r = simp e at h in (cc, e)
+      clean : {A : Type 0} → Clean ≡ Fault r → A
+      clean e = let y : _≡_ {A = ℕ} 0 1 = cc in absurd (omega arith)
 
-  position-first : (BadLength text → ⊥) → ((j : ℕ) → j ≤ positionsOf text + movesOf text → Free text j Clean) → (v : ℕ) → v < positionsOf text →
-      meantIn text (positionsOf text) (movesOf text) v ≡ false → ((k : ℕ) → k < v → missingAt text (positionsOf text) (movesOf text) k ≡ Clean) → First text (NoMeant (v + 1))
-  position-first fine lines v inside e clean = record {
-    applies = meant-without v inside e;
+      go : (a b : Bool) → eqb (letterAt text (v + 1)) 82 ≡ a → meantIn text (positionsOf text) (movesOf text) v ≡ b →
+          (NoMeant (v + 1) ≡ r) × (letterAt text (v + 1) ≡ 82 → ⊥) × (meantIn text (positionsOf text) (movesOf text) v ≡ false)
+      go true b d e = clean (simp d at h)
+      go false true d e = clean (simp (d, e) at h)
+      go false false d e = let z : Fault (NoMeant (v + 1)) ≡ Fault r = simp (d, e) at h in (cc, eqb-false (letterAt text (v + 1)) 82 d, e)
+
+  position-first : (BadLength text → ⊥) → ((j : ℕ) → j ≤ positionsOf text + movesOf text → Free text j Clean) → (v : ℕ) →
+      WithoutMeant text (v + 1) → ((k : ℕ) → k < v → missingAt text (positionsOf text) (movesOf text) k ≡ Clean) → First text (NoMeant (v + 1))
+  position-first fine lines v without clean = record {
+    applies = without;
     none-before = λ s b a.
         let w = last-stage fine lines s a in
         let line = position-line (misdrawnLine s) (w .1) in
         ⊎-elim (λ l. omega (arith, ap stage (w .0)))
         (λ x.
-        ⊎-elim (λ l. meant-some (misdrawnLine s) (w .1) (missing-clean text (positionsOf text) (movesOf text) (misdrawnLine s - 1) (clean (misdrawnLine s - 1) (omega (arith, line .0)))))
+        ⊎-elim (λ l. meant-some (misdrawnLine s) (w .1) (clean (misdrawnLine s - 1) (omega (arith, line .0))))
         (λ y. omega (arith, y .1, ap rank (w .0))) (x .1))
         b;
   }
+
+  -- where the lines are clean, a position that is no `R` is an `O` or an `L`
+  owned-position : firstFault (lineFinding text (positionsOf text)) (positionsOf text + movesOf text) 1 ≡ Clean → (v : ℕ) → v < positionsOf text →
+      (letterAt text (v + 1) ≡ 82 → ⊥) → (letterAt text (v + 1) ≡ 79) ⊎ (letterAt text (v + 1) ≡ 76)
+  owned-position p v h other =
+      let clean = all-clean (lineFinding text (positionsOf text)) (positionsOf text + movesOf text) 1 p (v + 1) (omega arith) (omega arith) in
+      let line = position-clean text (v + 1) (sym (line-position text (positionsOf text) (v + 1) (omega arith)) ∙ clean) in
+      ⊎-elim inl (⊎-elim inr (λ e. absurd (other e))) (line .form .allowed)
 
   all-free : headerOf text ≡ Accepted (countsOf text) → firstFault (lineFinding text (positionsOf text)) (positionsOf text + movesOf text) 1 ≡ Clean →
       (j : ℕ) → j ≤ positionsOf text + movesOf text → Free text j Clean
@@ -167,9 +186,7 @@ module _ (text : List ℕ) where
   some-meant : firstFault (missingAt text (positionsOf text) (movesOf text)) (positionsOf text) 0 ≡ Clean → (i : ℕ) → WithoutMeant text i → ⊥
   some-meant q i w =
       let line = position-line i w in
-      meant-some i w
-      (missing-clean text (positionsOf text) (movesOf text) (i - 1)
-      (all-clean (missingAt text (positionsOf text) (movesOf text)) (positionsOf text) 0 q (i - 1) (omega arith) (omega (arith, line .0, line .1))))
+      meant-some i w (all-clean (missingAt text (positionsOf text) (movesOf text)) (positionsOf text) 0 q (i - 1) (omega arith) (omega (arith, line .0, line .1)))
 
   -- a fault on line i, where the lines before it are clean
   fault-right : (BadLength text → ⊥) → headerOf text ≡ Accepted (countsOf text) → (r : Misdrawn) (i : ℕ) → 1 ≤ i → i < 1 + (positionsOf text + movesOf text) →
@@ -191,7 +208,9 @@ module _ (text : List ℕ) where
   lines-right fine header Clean (Fault r) p q =
       let w = first-answered _ (missingAt text (positionsOf text) (movesOf text)) Clean (Fault r) (λ z. faulty r (sym z)) (positionsOf text) 0 q in
       let x = missing-fault (w .0) r (w .2) in
-      subst (First text) (x .0) (position-first fine (all-free header p) (w .0) (omega (arith, w .1 .high)) (x .1) (λ k l. is-clean _ (w .1 .passed k (omega arith) l)))
+      let inside : w .0 < positionsOf text = omega (arith, w .1 .high) in
+      let without = meant-without (w .0) inside (owned-position p (w .0) inside (x .1)) (x .2) in
+      subst (First text) (x .0) (position-first fine (all-free header p) (w .0) without (λ k l. is-clean _ (w .1 .passed k (omega arith) l)))
   lines-right fine header Clean Clean p q =
       (λ s a. let w = last-stage fine (all-free header p) s a in some-meant q (misdrawnLine s) (w .1), refl)
 
@@ -230,7 +249,7 @@ right text = go (eqb (length text) 0) (ltb 55308 (length text)) (eqb (length tex
 
 -- a refusal by its rank and its line: the order leaves no two apart
 refusalAt : ℕ → ℕ → Misdrawn
-refusalAt place line = getD (Length ∷ Form line ∷ Limits ∷ Count ∷ Sequence line ∷ Endpoint line ∷ Disturbed line ∷ Order line ∷ NoMeant line ∷ []) place Length
+refusalAt place line = getD (Length ∷ Form line ∷ Limits ∷ Count ∷ Sequence line ∷ Endpoint line ∷ Disturbed line ∷ Resting line ∷ Order line ∷ NoMeant line ∷ []) place Length
 
 refusal-at : (r : Misdrawn) → refusalAt (rank r) (misdrawnLine r) ≡ r
 unfolding refusalAt
@@ -241,6 +260,7 @@ refusal-at Count = refl
 refusal-at (Sequence line) = refl
 refusal-at (Endpoint line) = refl
 refusal-at (Disturbed line) = refl
+refusal-at (Resting line) = refl
 refusal-at (Order line) = refl
 refusal-at (NoMeant line) = refl
 

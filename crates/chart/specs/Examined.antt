@@ -1,5 +1,5 @@
 -- The answer to any text, computed: the first fault in document 01's order ("Order: 1; then line by line 2 before the rest, 3
--- before 4, and 6, 7, 8; then 9"), one function for each line, or the counts. That it is the first of the conditions of
+-- before 4, and 6, 7, 8; then 9"), with 17 beside 7, one function for each line, or the counts. That it is the first of the conditions of
 -- specs/Refusals.antt is proved in specs/Exact.antt.
 use Prim.Native.Nat.{ℕ, zero, suc, _+_, _-_, _*_, _%_}
 use mathlib.Core.Bool.{Bool, true, false, cond}
@@ -12,7 +12,7 @@ use Rattle.chart.specs.Text.{letterAt, firstAt, secondAt, endAt, markOf,
 use Rattle.chart.specs.Meaning.{costOf}
 use Rattle.rows.specs.declared.Chart.{Chart}
 use Rattle.chart.specs.declared.Row.{Row}
-use Rattle.refusal.specs.declared.Misdrawn.the-variants.{Length, Form, Limits, Count, Sequence, Endpoint, Disturbed, Order, NoMeant}
+use Rattle.refusal.specs.declared.Misdrawn.the-variants.{Length, Form, Limits, Count, Sequence, Endpoint, Disturbed, Resting, Order, NoMeant}
 use Rattle.chart.specs.declared.Finding.{Finding}
 use Rattle.chart.specs.declared.Finding.the-variants.{Clean, Fault}
 use Rattle.chart.specs.declared.Examination.{Examination}
@@ -22,20 +22,29 @@ use Rattle.chart.specs.declared.Examination.the-variants.{Accepted, Refu
 unfoldable pub numbered : Field → Field → ℕ → Bool
 numbered first second end = cond (isNumber first) (cond (isNumber second) (eqb end 10) false) false
 
--- the letter is a or b besides
-unfoldable pub formed : ℕ → Field → Field → ℕ → ℕ → ℕ → Bool
-formed letter first second end a b =
-    cond (eqb letter a) (numbered first second end) (cond (eqb letter b) (numbered first second end) false)
+-- the tests of the letter: the header's (`H`), a position's (`O`, `L`, `R`) and a move's (`M`, `D`)
+unfoldable pub headerLetter : ℕ → Bool
+headerLetter letter = eqb letter 72
 
--- the form of the header (`H`), of a position line (`O`, `L`) and of a move line (`M`, `D`)
+unfoldable pub positionLetter : ℕ → Bool
+positionLetter letter = cond (eqb letter 79) true (cond (eqb letter 76) true (eqb letter 82))
+
+unfoldable pub moveLetter : ℕ → Bool
+moveLetter letter = cond (eqb letter 77) true (eqb letter 68)
+
+-- the letter is allowed besides
+unfoldable pub formed : Bool → Field → Field → ℕ → Bool
+formed allowed first second end = cond allowed (numbered first second end) false
+
+-- the form of the header, of a position line and of a move line
 unfoldable pub headerFormed : List ℕ → Bool
-headerFormed text = formed (letterAt text 0) (firstAt text 0) (secondAt text 0) (endAt text 0) 72 72
+headerFormed text = formed (headerLetter (letterAt text 0)) (firstAt text 0) (secondAt text 0) (endAt text 0)
 
 unfoldable pub positionFormed : List ℕ → ℕ → Bool
-positionFormed text i = formed (letterAt text i) (firstAt text i) (markAt text i) (endAt text i) 79 76
+positionFormed text i = formed (positionLetter (letterAt text i)) (firstAt text i) (markAt text i) (endAt text i)
 
 unfoldable pub moveFormed : List ℕ → ℕ → Bool
-moveFormed text i = formed (letterAt text i) (firstAt text i) (secondAt text i) (endAt text i) 77 68
+moveFormed text i = formed (moveLetter (letterAt text i)) (firstAt text i) (secondAt text i) (endAt text i)
 
 -- refusals 2, 3 and 4 on line 0, or the counts
 unfoldable pub limitsOf : Bool → ℕ → ℕ → ℕ → Examination
@@ -67,7 +76,7 @@ positionFinding text i = judgedPosition (positionFormed text i) i (fromAt text i
 -- the same from the line's columns
 unfoldable pub positionRowFinding : Row → ℕ → Finding
 positionRowFinding row i =
-    judgedPosition (formed (row .letter) (row .first) (markOf (row .second)) (row .end) 79 76) i (fieldNumber (row .first)) (fieldNumber (markOf (row .second)))
+    judgedPosition (formed (positionLetter (row .letter)) (row .first) (markOf (row .second)) (row .end)) i (fieldNumber (row .first)) (fieldNumber (markOf (row .second)))
 
 -- "by from, then M before D, then by to": the second move is above the first
 unfoldable pub above : ℕ → ℕ → ℕ → ℕ → ℕ → ℕ → Bool
@@ -88,15 +97,22 @@ rises text i =
 unfoldable pub ordered : ℕ → ℕ → Bool → Finding
 ordered n i rising = cond (leb (i - 1) n) Clean (cond rising Clean (Fault (Order i)))
 
--- refusals 2, 6, 7 and 8, for a letter, from, to, the letter of the position moved from, and whether the move rises
+-- refusals 7 and 17, then 8, for a letter, the letter of the position moved from, and whether the move rises
+unfoldable pub judgedOwner : ℕ → ℕ → ℕ → ℕ → Bool → Finding
+judgedOwner n i letter owner rising =
+    cond (eqb letter 68)
+    (cond (eqb owner 76) (Fault (Disturbed i)) (ordered n i rising))
+    (cond (eqb letter 77)
+    (cond (eqb owner 82) (Fault (Resting i)) (ordered n i rising))
+    (ordered n i rising))
+
+-- refusals 2 and 6, then those, for from and to besides
 unfoldable pub judgedMove : Bool → ℕ → ℕ → ℕ → ℕ → ℕ → ℕ → Bool → Finding
 judgedMove ok n i letter from to owner rising =
     cond ok
     (cond (leb n from) (Fault (Endpoint i))
     (cond (leb n to) (Fault (Endpoint i))
-    (cond (eqb letter 68)
-    (cond (eqb owner 76) (Fault (Disturbed i)) (ordered n i rising))
-    (ordered n i rising))))
+    (judgedOwner n i letter owner rising)))
     (Fault (Form i))
 
 unfoldable pub moveFinding : List ℕ → ℕ → ℕ → Finding
@@ -130,13 +146,14 @@ unfoldable pub meantIn : List ℕ → ℕ → ℕ → ℕ → Bool
 meantIn text n zero v = false
 meantIn text n (suc count) v = cond (meantIn text n count v) true (meantLine text (n + 1 + count) v)
 
--- refusal 9 for position v, of n, with m moves
+-- refusal 9 for position v, of n, with m moves; an `R` needs no meant move
 unfoldable pub missingAt : List ℕ → ℕ → ℕ → ℕ → Finding
-missingAt text n m v = cond (meantIn text n m v) Clean (Fault (NoMeant (v + 1)))
+missingAt text n m v = cond (eqb (letterAt text (v + 1)) 82) Clean (cond (meantIn text n m v) Clean (Fault (NoMeant (v + 1))))
 
 -- the same of a row of flags, 0 where there is no meant move
-unfoldable pub unflaggedAt : List ℕ → ℕ → Finding
-unflaggedAt flags v = cond (eqb (getD flags v 0) 0) (Fault (NoMeant (v + 1))) Clean
+unfoldable pub unflaggedAt : List ℕ → List ℕ → ℕ → Finding
+unflaggedAt text flags v =
+    cond (eqb (getD flags v 0) 0) (cond (eqb (letterAt text (v + 1)) 82) Clean (Fault (NoMeant (v + 1)))) Clean
 
 -- a fault is the answer, or the chart is accepted
 unfoldable pub answer : Chart → Finding → Examination

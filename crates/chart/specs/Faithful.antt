@@ -1,18 +1,18 @@
 -- Texts and arenas mean each other: an accepted text with its blank marks filled is the text of its arena, and every arena that is
 -- well-formed, within the limits, with marks 0 or 1 and strictly rising moves has a text that is accepted and means it. An accepted line
 -- without a blank has the bytes that set out what it says (specs/Lines.antt); filling changes neither the answer nor the arena
--- (specs/BlankLaws.antt); a line of an arena's text reads as what was set out, so that no refusal applies.
+-- (specs/BlankLaws.antt); a line of an arena's text reads as what was set out (specs/SetOut.antt), so that no refusal applies.
 use Prim.Native.Nat.{ℕ, zero, suc, _+_, _-_, _*_, _≤_, _<_}
 use native.Mathlib.Omega.{arith}
 use native.Mathlib.Nat.{add-comm}
 use mathlib.Core.Path.{_≡_, refl, sym, ap, ap₂, _∙_, subst, subst₂}
 use mathlib.Core.Logic.{_⊎_, inl, inr, ⊎-elim}
 use mathlib.Core.Bool.{Bool, true, false}
-use mathlib.Core.List.{List, [], _++_, append-assoc, append-nil, Memᴰ·cast}
-use lib.ListN.{length, drop, length-append, drop-of-length-le}
+use mathlib.Core.List.{List, _++_, append-nil, Memᴰ·cast}
+use lib.ListN.{length, drop, drop-of-length-le}
 use lib.Dec.{T, eqb, leb, eqb·suc-zero}
 use borrow.Author.Tests.{eqb-true, eqb-false, leb-true, leb-false}
-use Rattle.game.specs.Arena.{Arena, Position, Move, Owner, controller, environment, size, ownerAt, positionAt, moveAt, nowhere, noMove, meantMove, Disturbance, mayBeDisturbed}
+use Rattle.game.specs.Arena.{Arena, Move, Owner, controller, environment, nobody, size, ownerAt, positionAt, moveAt, nowhere, noMove, meantMove, Meant, Disturbance, mayBeDisturbed, hasMeant}
 use Rattle.field.specs.declared.Field.the-variants.{Number}
 use Rattle.chart.specs.Text.{letterAt, firstAt, secondAt, markOf, markAt, fieldNumber, positionsOf, movesOf, fromAt, toAt}
 use Rattle.chart.specs.Meaning.{ownerOf, ownerLetter, costOf, costLetter, positionOn, moveOn, arenaOf, chartLine, positionText, moveText, chartText, Rises, Chartable}
@@ -20,26 +20,26 @@ use Rattle.chart.specs.Examined.{examined}
 use Rattle.chart.specs.Good.{GoodChart, accepted-good}
 use Rattle.game.specs.Members.{member-at, at-member}
 use Rattle.line.specs.Joined.{joined, onLines}
-use Rattle.line.specs.LineLaws.{line-length}
-use Rattle.line.specs.JoinedLaws.{joined-length, joined-part, joined-stands, on-lines-list}
+use Rattle.line.specs.JoinedLaws.{joined-stands, on-lines-list}
 use Rattle.chart.specs.Arenas.{arena-size, arena-moves, arena-position, arena-move}
-use Rattle.chart.specs.Lines.{Reads, number-again, reads-formed, reads-bytes, bytes-read}
+use Rattle.chart.specs.Lines.{Reads, number-again, reads-formed, reads-bytes}
+use Rattle.chart.specs.SetOut.{SetOut, set-out}
 use Rattle.chart.specs.Blanks.{WithoutBlanks, filling}
 use Rattle.chart.specs.BlankLaws.{plain-mark, filling-without-blanks, filling-differs, examined-same, arena-same}
-use Rattle.chart.specs.Refusals.{PositionLine, MoveLine, Allowed, BadLength, BadForm, OutsideLimits, WrongCount, OutOfSequence, BadEndpoint, BadDisturbance, OutOfOrder, WithoutMeant, Applies}
+use Rattle.chart.specs.Refusals.{PositionLine, MoveLine, HeaderLetter, PositionLetter, MoveLetter, Allowed, BadLength, BadForm, OutsideLimits, WrongCount, OutOfSequence, BadEndpoint, BadDisturbance, MeantAtRest, OutOfOrder, WithoutMeant, Applies}
 use Rattle.chart.specs.LineExact.{position-second, other-second, form-good}
 use Rattle.chart.specs.Exact.{accepted-exactly}
 use Rattle.refusal.specs.declared.Misdrawn.{Misdrawn}
-use Rattle.refusal.specs.declared.Misdrawn.the-variants.{Length, Form, Limits, Count, Sequence, Endpoint, Disturbed, Order, NoMeant}
+use Rattle.refusal.specs.declared.Misdrawn.the-variants.{Length, Form, Limits, Count, Sequence, Endpoint, Disturbed, Resting, Order, NoMeant}
 use Rattle.rows.specs.declared.Chart.{Chart}
 use Rattle.chart.specs.declared.Examination.the-variants.{Accepted}
 
 -- letters stand for owners and costs
-letter-owner : (letter : ℕ) → (letter ≡ 79) ⊎ (letter ≡ 76) → ownerLetter (ownerOf letter) ≡ letter
+letter-owner : (letter : ℕ) → PositionLetter letter → ownerLetter (ownerOf letter) ≡ letter
 unfolding ownerOf ownerLetter
-letter-owner letter = ⊎-elim (λ e. rw e) (λ e. rw e)
+letter-owner letter = ⊎-elim (λ e. rw e) (⊎-elim (λ e. rw e) (λ e. rw e))
 
-letter-cost : (letter : ℕ) → (letter ≡ 77) ⊎ (letter ≡ 68) → costLetter (costOf letter) ≡ letter
+letter-cost : (letter : ℕ) → MoveLetter letter → costLetter (costOf letter) ≡ letter
 unfolding costOf costLetter
 letter-cost letter = ⊎-elim (λ e. rw e) (λ e. rw e)
 
@@ -52,7 +52,7 @@ module _ (text : List ℕ) (g : GoodChart text) (w : WithoutBlanks text) where
   unfolding positionsOf movesOf
   header-bytes =
       reads-bytes text 0 72 (positionsOf text) (movesOf text) (omega (arith, lines))
-      (record { letter-is = ⊎-elim (λ e. e) (λ e. e) (g .form .allowed); first-is = g .form .first-number; second-is = g .form .second-number; end-is = g .form .ends })
+      (record { letter-is = g .form .allowed; first-is = g .form .first-number; second-is = g .form .second-number; end-is = g .form .ends })
 
   position-bytes : (v : ℕ) → v < positionsOf text → drop (12 + v * 12) text ≡ positionText v (positionAt (arenaOf text) v) ++ drop (12 + suc v * 12) text
   unfolding positionText positionOn fromAt
@@ -108,6 +108,7 @@ owner-letter : (o : Owner) → ownerOf (ownerLetter o) ≡ o
 unfolding ownerOf ownerLetter
 owner-letter controller = refl
 owner-letter environment = refl
+owner-letter nobody = refl
 
 cost-letter : (cost : ℕ) → cost < 2 → costOf (costLetter cost) ≡ cost
 unfolding costOf costLetter
@@ -115,86 +116,13 @@ cost-letter zero h = refl
 cost-letter (suc zero) h = refl
 cost-letter (suc (suc cost)) h = absurd (omega arith)
 
--- how the text of an arena reads, line by line
-pub record SetOut (a : Arena) (text : List ℕ) : Type 0 where
-  pub lines : length text ≡ (1 + size a + length (a .moves)) * 12
-  pub header : Reads text 0 72 (size a) (Number (length (a .moves)))
-  pub position : (v : ℕ) → v < size a → Reads text (v + 1) (ownerLetter (ownerAt a v)) v (Number (positionAt a v .mark))
-  pub move : (i : ℕ) → i < length (a .moves) → Reads text (size a + 1 + i) (costLetter (moveAt a i .cost)) (moveAt a i .from) (Number (moveAt a i .to))
-
-position-twelve : (v : ℕ) (p : Position) → length (positionText v p) ≡ 12
-unfolding positionText
-position-twelve v p = line-length (ownerLetter (p .owner)) _
-
-move-twelve : (m : Move) → length (moveText m) ≡ 12
-unfolding moveText
-move-twelve m = line-length (costLetter (m .cost)) _
-
-module _ (a : Arena) (c : Chartable a) where
-  positionLines : ℕ → List ℕ
-  positionLines = joined (λ v. positionText v (positionAt a v))
-
-  moveLines : ℕ → List ℕ
-  moveLines = joined (λ i. moveText (moveAt a i))
-
-  head : List ℕ
-  head = chartLine 72 (size a) (length (a .moves))
-
-  text-parts : chartText a ≡ head ++ (positionLines (size a) ++ moveLines (length (a .moves)))
-  unfolding chartText head positionLines moveLines
-  text-parts = refl
-
-  head-length : length head ≡ 12
-  unfolding head
-  head-length = line-length 72 _
-
-  positions-length : length (positionLines (size a)) ≡ size a * 12
-  unfolding positionLines
-  positions-length = joined-length _ 12 (λ v. position-twelve v (positionAt a v)) (size a)
-
-  moves-length : length (moveLines (length (a .moves))) ≡ length (a .moves) * 12
-  unfolding moveLines
-  moves-length = joined-length _ 12 (λ i. move-twelve (moveAt a i)) (length (a .moves))
-
-  position-reads : (v : ℕ) → v < size a → Reads (chartText a) (v + 1) (ownerLetter (ownerAt a v)) v (Number (positionAt a v .mark))
-  unfolding positionLines positionText
-  position-reads v h =
-      let part = joined-part _ 12 (λ u. position-twelve u (positionAt a u)) (size a) v h in
-      let moves = moveLines (length (a .moves)) in
-      bytes-read (chartText a) (head ++ positionLines v) (part .0 ++ moves) (v + 1) (ownerLetter (ownerAt a v)) v (positionAt a v .mark) (omega (arith, c .few-positions)) (omega (arith, c .mark v h))
-      (length-append head (positionLines v) ∙ omega (arith, head-length, part .2))
-      (text-parts ∙ ap (λ (l : List ℕ). head ++ (l ++ moves)) (part .1) ∙ simp append-assoc)
-
-  move-reads : (i : ℕ) → i < length (a .moves) → Reads (chartText a) (size a + 1 + i) (costLetter (moveAt a i .cost)) (moveAt a i .from) (Number (moveAt a i .to))
-  unfolding moveLines moveText
-  move-reads i h =
-      let part = joined-part _ 12 (λ j. move-twelve (moveAt a j)) (length (a .moves)) i h in
-      let member = at-member noMove (a .moves) i h in
-      let before = head ++ (positionLines (size a) ++ moveLines i) in
-      bytes-read (chartText a) before (part .0) (size a + 1 + i) (costLetter (moveAt a i .cost)) (moveAt a i .from) (moveAt a i .to)
-      (omega (arith, c .well-formed .from-position (moveAt a i) member, c .few-positions)) (omega (arith, c .well-formed .to-position (moveAt a i) member, c .few-positions))
-      (length-append head _ ∙ omega (arith, head-length, length-append (positionLines (size a)) (moveLines i), positions-length, part .2))
-      (text-parts ∙ ap (λ (l : List ℕ). head ++ (positionLines (size a) ++ l)) (part .1) ∙ simp append-assoc)
-
-  set-out : SetOut a (chartText a)
-  unfolding head
-  set-out = record {
-    lines =
-        ap length text-parts ∙ length-append head _
-        ∙ omega (arith, head-length, length-append (positionLines (size a)) (moveLines (length (a .moves))), positions-length, moves-length);
-    header =
-        bytes-read (chartText a) [] (positionLines (size a) ++ moveLines (length (a .moves))) 0 72 (size a) (length (a .moves))
-        (omega (arith, c .few-positions)) (omega (arith, c .few-moves)) refl text-parts;
-    position = position-reads;
-    move = move-reads;
-  }
-
-owner-letters : (o : Owner) → (ownerLetter o ≡ 79) ⊎ (ownerLetter o ≡ 76)
+owner-letters : (o : Owner) → PositionLetter (ownerLetter o)
 unfolding ownerLetter
 owner-letters controller = inl refl
-owner-letters environment = inr refl
+owner-letters environment = inr (inl refl)
+owner-letters nobody = inr (inr refl)
 
-cost-letters : (cost : ℕ) → (costLetter cost ≡ 77) ⊎ (costLetter cost ≡ 68)
+cost-letters : (cost : ℕ) → MoveLetter (costLetter cost)
 unfolding costLetter
 cost-letters zero = inl refl
 cost-letters (suc cost) = inr (simp (eqb·suc-zero cost))
@@ -205,10 +133,28 @@ disturbance-cost zero h e = absurd (omega arith)
 disturbance-cost (suc zero) h e = refl
 disturbance-cost (suc (suc cost)) h e = absurd (omega arith)
 
+meant-cost : (cost : ℕ) → costLetter cost ≡ 77 → 0 ≡ cost
+unfolding costLetter
+meant-cost zero e = refl
+meant-cost (suc cost) e = let z : _≡_ {A = ℕ} 68 77 = simp (eqb·suc-zero cost) at e in absurd (omega arith)
+
 environment-letter : (o : Owner) → ownerLetter o ≡ 76 → T (mayBeDisturbed o) → ⊥
 unfolding ownerLetter
 environment-letter controller e t = omega arith
 environment-letter environment e t = t
+environment-letter nobody e t = omega arith
+
+nobody-letter : (o : Owner) → ownerLetter o ≡ 82 → T (hasMeant o) → ⊥
+unfolding ownerLetter
+nobody-letter controller e t = omega arith
+nobody-letter environment e t = omega arith
+nobody-letter nobody e t = t
+
+meant-owner : (o : Owner) → (ownerLetter o ≡ 79) ⊎ (ownerLetter o ≡ 76) → T (hasMeant o)
+unfolding ownerLetter
+meant-owner controller w = tt
+meant-owner environment w = tt
+meant-owner nobody w = absurd (⊎-elim (λ e. omega arith) (λ e. omega arith) w)
 
 module _ (a : Arena) (c : Chartable a) (text : List ℕ) (s : SetOut a text) where
   counted : positionsOf text ≡ size a
@@ -254,18 +200,18 @@ module _ (a : Arena) (c : Chartable a) (text : List ℕ) (s : SetOut a text) whe
       go true y u v =
           let e : 0 ≡ i = sym (eqb-true i 0 u) in
           let r = subst (λ (k : ℕ). Reads text k 72 (size a) (Number (length (a .moves)))) e (s .header) in
-          form-good text i 72 72 (secondAt text i) (other-second text i (λ q. omega (arith, q .0))) (inl (sym e, r .letter-is)) (reads-formed text i 72 (size a) _ (secondAt text i) _ 72 72 r (r .second-is) (inl refl)) bad
+          form-good (HeaderLetter (letterAt text i)) text i (secondAt text i) (other-second text i (λ q. omega (arith, q .0))) (inl (sym e, r .letter-is)) (reads-formed HeaderLetter text i 72 (size a) _ (secondAt text i) _ r (r .second-is) refl) bad
       go false true u v =
           let other : i ≡ 0 → ⊥ = eqb-false i 0 u in
           let p : PositionLine text i = (omega arith, leb-true i (positionsOf text) v) in
           let w = position-line i p in
-          let f = reads-formed text i _ _ _ (markAt text i) _ 79 76 (w .3) (mark-line i (w .0) (w .3)) (owner-letters (ownerAt a (w .0))) in
-          form-good text i 79 76 (markAt text i) (position-second text i p) (inr (inl (p, f .allowed))) f bad
+          let f = reads-formed PositionLetter text i _ _ _ (markAt text i) _ (w .3) (mark-line i (w .0) (w .3)) (owner-letters (ownerAt a (w .0))) in
+          form-good (PositionLetter (letterAt text i)) text i (markAt text i) (position-second text i p) (inr (inl (p, f .allowed))) f bad
       go false false u v =
           let p : MoveLine text i = (leb-false i (positionsOf text) v, bad .0) in
           let w = move-line i p in
-          let f = reads-formed text i _ _ _ (secondAt text i) _ 77 68 (w .3) (w .3 .second-is) (cost-letters (moveAt a (w .0) .cost)) in
-          form-good text i 77 68 (secondAt text i) (other-second text i (λ q. omega (arith, p .0, q .1))) (inr (inr (p, f .allowed))) f bad
+          let f = reads-formed MoveLetter text i _ _ _ (secondAt text i) _ (w .3) (w .3 .second-is) (cost-letters (moveAt a (w .0) .cost)) in
+          form-good (MoveLetter (letterAt text i)) text i (secondAt text i) (other-second text i (λ q. omega (arith, p .0, q .1))) (inr (inr (p, f .allowed))) f bad
 
   limits-fine : OutsideLimits text → ⊥
   unfolding OutsideLimits
@@ -331,6 +277,18 @@ module _ (a : Arena) (c : Chartable a) (text : List ℕ) (s : SetOut a text) whe
       let owner = s .position (m .from) (c .well-formed .from-position m member) .letter-is in
       environment-letter (ownerAt a (m .from)) (sym owner ∙ ap (λ (v : ℕ). letterAt text (v + 1)) (sym from) ∙ bad .1 .1) (c .well-formed .disturbed (m .from) (m .to) here)
 
+  resting-fine : (i : ℕ) → MeantAtRest text i → ⊥
+  unfolding MeantAtRest fromAt
+  resting-fine i bad =
+      let w = move-line i (bad .0) in
+      let m = moveAt a (w .0) in
+      let member = at-member noMove (a .moves) (w .0) (w .2) in
+      let cost : 0 ≡ m .cost = meant-cost (m .cost) (sym (w .3 .letter-is) ∙ bad .1 .0) in
+      let here : Meant a (m .from) (m .to) = Memᴰ·cast (λ j. record { cost = cost j; from = m .from; to = m .to }) member in
+      let from : fromAt text i ≡ m .from = number-again (firstAt text i) (m .from) (w .3 .first-is) .1 in
+      let owner = s .position (m .from) (c .well-formed .from-position m member) .letter-is in
+      nobody-letter (ownerAt a (m .from)) (sym owner ∙ ap (λ (v : ℕ). letterAt text (v + 1)) (sym from) ∙ bad .1 .1) (c .well-formed .resting (m .from) (m .to) here)
+
   order-fine : (i : ℕ) → OutOfOrder text i → ⊥
   unfolding OutOfOrder
   order-fine i bad =
@@ -346,12 +304,14 @@ module _ (a : Arena) (c : Chartable a) (text : List ℕ) (s : SetOut a text) whe
   unfolding WithoutMeant costLetter
   meant-fine i bad =
       let w = position-line i (bad .0) in
-      let target = c .well-formed .meant (w .0) (w .2) in
+      let letter-is = w .3 .letter-is in
+      let owned = ⊎-elim (λ e. inl (sym letter-is ∙ e)) (λ e. inr (sym letter-is ∙ e)) (bad .1) in
+      let target = c .well-formed .meant (w .0) (w .2) (meant-owner (ownerAt a (w .0)) owned) in
       let at = member-at noMove (meantMove (w .0) (target .0)) (a .moves) (target .1) in
       let line = size a + 1 + at .0 in
       let letter = s .move (at .0) (at .1) .letter-is ∙ ap (λ (m : Move). costLetter (m .cost)) (at .2) in
       let from : fromAt text line ≡ i - 1 = from-on (at .0) (at .1) ∙ ap (λ (m : Move). m .from) (at .2) ∙ omega (arith, w .1) in
-      bad .1 line (omega (arith, counted), omega (arith, counted, moved, at .1)) letter from
+      bad .2 line (omega (arith, counted), omega (arith, counted, moved, at .1)) letter from
 
   none-applies : (r : Misdrawn) → Applies text r → ⊥
   none-applies Length w = length-fine w
@@ -361,6 +321,7 @@ module _ (a : Arena) (c : Chartable a) (text : List ℕ) (s : SetOut a text) whe
   none-applies (Sequence line) w = sequence-fine line w
   none-applies (Endpoint line) w = endpoint-fine line w
   none-applies (Disturbed line) w = disturbed-fine line w
+  none-applies (Resting line) w = resting-fine line w
   none-applies (Order line) w = order-fine line w
   none-applies (NoMeant line) w = meant-fine line w
 

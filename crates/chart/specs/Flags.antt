@@ -9,6 +9,7 @@ use lib.ListN.{length, getD, set, replicate}
 use lib.Seq.{getD-set-same, getD-set-other}
 use lib.Dec.{ltb, eqb}
 use borrow.Author.Tests.{ltb-true, ltb-false, eqb-true, eqb-false}
+use Rattle.chart.specs.Text.{letterAt}
 use Rattle.chart.specs.Examined.{meantLine, isClean, firstFault, meantIn, missingAt, unflaggedAt}
 use Rattle.search.specs.First.{first-same}
 use Rattle.refusal.specs.declared.Misdrawn.the-variants.{NoMeant}
@@ -50,14 +51,16 @@ flag-next text n line v old h = go (ltb n line) refl
         let q : line - 1 - n ≡ line + 1 - 1 - n = omega arith in
         ap (λ (k : ℕ). cond (meantIn text n k v) 1 old) q
 
--- where the flags were 0, the unflagged positions are those without a meant move
-pub flags-tell : (text flags : List ℕ) (n m v : ℕ) → getD flags v 0 ≡ cond (meantIn text n m v) 1 0 → unflaggedAt flags v ≡ missingAt text n m v
+-- where the flags were 0, the unflagged positions that are no `R` are those without a meant move that are none
+pub flags-tell : (text flags : List ℕ) (n m v : ℕ) → getD flags v 0 ≡ cond (meantIn text n m v) 1 0 → unflaggedAt text flags v ≡ missingAt text n m v
 unfolding unflaggedAt missingAt
-flags-tell text flags n m v e = rw e (both (meantIn text n m v))
+flags-tell text flags n m v e = rw e (both (meantIn text n m v) (eqb (letterAt text (v + 1)) 82))
   where
-    both : (b : Bool) → cond (eqb (cond b 1 0) 0) (Fault (NoMeant (v + 1))) Clean ≡ cond b Clean (Fault (NoMeant (v + 1)))
-    both true = refl
-    both false = refl
+    both : (b r : Bool) → cond (eqb (cond b 1 0) 0) (cond r Clean (Fault (NoMeant (v + 1)))) Clean ≡ cond r Clean (cond b Clean (Fault (NoMeant (v + 1))))
+    both true true = refl
+    both true false = refl
+    both false true = refl
+    both false false = refl
 
 pub zeros : (count v : ℕ) → getD {A = ℕ} (replicate count 0) v 0 ≡ 0
 zeros zero v = refl
@@ -65,5 +68,5 @@ zeros (suc count) zero = refl
 zeros (suc count) (suc v) = zeros count v
 
 -- so the first of them is the same
-pub flags-first : (text flags : List ℕ) (n m : ℕ) → ((v : ℕ) → v < n → getD flags v 0 ≡ cond (meantIn text n m v) 1 0) → firstFault (unflaggedAt flags) n 0 ≡ firstFault (missingAt text n m) n 0
-flags-first text flags n m h = first-same _ _ (unflaggedAt flags) (missingAt text n m) Clean n 0 (λ j l k. let e = flags-tell text flags n m j (h j (omega arith)) in (ap isClean e, e))
+pub flags-first : (text flags : List ℕ) (n m : ℕ) → ((v : ℕ) → v < n → getD flags v 0 ≡ cond (meantIn text n m v) 1 0) → firstFault (unflaggedAt text flags) n 0 ≡ firstFault (missingAt text n m) n 0
+flags-first text flags n m h = first-same _ _ (unflaggedAt text flags) (missingAt text n m) Clean n 0 (λ j l k. let e = flags-tell text flags n m j (h j (omega arith)) in (ap isClean e, e))

@@ -17,4 +17,5 @@ pub mod LineExact
 pub mod Exact
 pub mod Lines
 pub mod BlankLaws
+pub mod SetOut
 pub mod Faithful

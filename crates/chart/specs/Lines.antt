@@ -3,7 +3,6 @@
 use Prim.Native.Nat.{ℕ, _+_, _*_, _≤_}
 use native.Mathlib.Omega.{arith}
 use mathlib.Core.Path.{_≡_, sym, ap, _∙_, subst}
-use mathlib.Core.Logic.{_⊎_, inl, inr, ⊎-elim}
 use mathlib.Core.List.{List, [], _∷_, _++_}
 use lib.ListN.{length, drop}
 use Rattle.field.specs.Laws.{field-small}
@@ -30,10 +29,10 @@ unfolding fieldNumber
 number-again f x e = (e ∙ ap (λ (g : Field). Number (fieldNumber g)) (sym e), ap fieldNumber e)
 
 -- the form of a line that reads so, where what its second field stands for is a number
-pub reads-formed : (text : List ℕ) (i letter first : ℕ) (second stands : Field) (x a b : ℕ) → Reads text i letter first second → stands ≡ Number x → (letter ≡ a) ⊎ (letter ≡ b) →
-    Formed (letterAt text i) (firstAt text i) stands (endAt text i) a b
-reads-formed text i letter first second stands x a b r s w = record {
-  allowed = ⊎-elim (λ e. inl (r .letter-is ∙ e)) (λ e. inr (r .letter-is ∙ e)) w;
+pub reads-formed : (Letter : ℕ → Type 0) (text : List ℕ) (i letter first : ℕ) (second stands : Field) (x : ℕ) → Reads text i letter first second → stands ≡ Number x → Letter letter →
+    Formed (Letter (letterAt text i)) (firstAt text i) stands (endAt text i)
+reads-formed Letter text i letter first second stands x r s w = record {
+  allowed = subst Letter (sym (r .letter-is)) w;
   first-number = number-again (firstAt text i) first (r .first-is) .0;
   second-number = number-again stands x s .0;
   ends = r .end-is;

@@ -9,16 +9,17 @@ use lib.Dec.{eqb}
 use Rattle.line.specs.Text.{lineText}
 use Rattle.line.specs.Joined.{joined, onLines}
 use Rattle.line.specs.declared.Entry.the-variants.{Number}
-use Rattle.game.specs.Arena.{Arena, Position, Move, Owner, controller, environment, size, positionAt, moveAt, WellFormed}
+use Rattle.game.specs.Arena.{Arena, Position, Move, Owner, controller, environment, nobody, size, positionAt, moveAt, WellFormed}
 use Rattle.chart.specs.Text.{letterAt, markAt, fieldNumber, positionsOf, movesOf, fromAt, toAt}
 
--- "`O` (the console chooses) or `L` (the lane chooses)"
+-- "`O` (the console chooses) or `L` (the lane chooses)", and document 02, order 4: "letter `R` is a position without meant moves"
 unfoldable pub ownerOf : ℕ → Owner
-ownerOf letter = cond (eqb letter 76) environment controller
+ownerOf letter = cond (eqb letter 76) environment (cond (eqb letter 82) nobody controller)
 
 unfoldable pub ownerLetter : Owner → ℕ
 ownerLetter controller = 79
 ownerLetter environment = 76
+ownerLetter nobody = 82
 
 -- "`M` (meant) or `D` (disturbance)"
 unfoldable pub costOf : ℕ → ℕ

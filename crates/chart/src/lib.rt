@@ -1,5 +1,5 @@
-// The chart's text (document 01, "The chart", and refusals 1 to 9 of its table): a text of any bytes is examined whole. What a text
-// means is in specs/Meaning.antt, each refusal's condition in specs/Refusals.antt.
+// The chart's text (document 01, "The chart", and refusals 1 to 9 of its table, with 17 of document 02): a text of any bytes is examined
+// whole. What a text means is in specs/Meaning.antt, each refusal's condition in specs/Refusals.antt.
 ghost use mathlib.Core.Path.{_≡_};
 ghost use mathlib.Core.Bool.{cond, false};
 ghost use Prim.Native.Nat.{ℕ, _+_, _-_, _*_, _≤_, _<_};
@@ -7,7 +7,7 @@ ghost use lib.ListN.{length, getD};
 ghost use Rattle.chart.specs.Text.{letterAt, markOf, fieldNumber};
 ghost use Rattle.chart.specs.Columns.{rowAt, meantRow};
 ghost use Rattle.chart.specs.Meaning.{costOf};
-ghost use Rattle.chart.specs.Examined.{numbered, formed, headerOf, limitsOf, positionRowFinding, judgedPosition, moveFinding, judgedMove, ordered, above, lineFinding, firstFault, meantIn, unflaggedAt, afterHeader, examined};
+ghost use Rattle.chart.specs.Examined.{headerLetter, positionLetter, moveLetter, numbered, formed, headerOf, limitsOf, positionRowFinding, judgedPosition, moveFinding, judgedMove, judgedOwner, ordered, above, lineFinding, firstFault, meantIn, unflaggedAt, afterHeader, examined};
 use field::Field;
 use field::read;
 use refusal::Misdrawn;
@@ -61,7 +61,7 @@ pub fn header(text: &[u8]) -> Examination
     let row = row_at(text, 0);
     let first = row.first;
     let second = row.second;
-    let ok = formed(row.letter, first, second, row.end, b'H', b'H');
+    let ok = formed(header_letter(row.letter), first, second, row.end);
     limits(ok, text.len(), number(first), number(second))
 }
 
@@ -92,7 +92,7 @@ fn limits(ok: bool, size: usize, n: usize, m: usize) -> Examination
     })
 }
 
-// The lines after a header with these counts, and then that each position has a meant move: the lines' flags tell.
+// The lines after a header with these counts, and then that each position but those of rest has a meant move: the lines' flags tell.
 fn after_header(text: &[u8], chart: Chart) -> Examination
     requires { ⌜ (1 + chart .positions + chart .moves) * 12 ≤ length (now text) ⌝ }
     requires { ⌜ (chart .positions ≤ 512) × (chart .moves ≤ 4096) ⌝ }
@@ -103,7 +103,7 @@ fn after_header(text: &[u8], chart: Chart) -> Examination
     let mut flags = [0u8; Chart::POSITIONS];
     match first_fault(text, n, n + m, &mut flags) {
         Finding::Fault(r) => Examination::Refused(r),
-        Finding::Clean => match unflagged(&flags, n) {
+        Finding::Clean => match unflagged(text, &flags, n) {
             Finding::Fault(r) => Examination::Refused(r),
             Finding::Clean => Examination::Accepted(chart),
         },
@@ -168,7 +168,7 @@ fn position_fault(line: usize, row: Row) -> Finding
     let first = row.first;
     let second = row.second;
     let mark = mark(second);
-    let ok = formed(row.letter, first, mark, row.end, b'O', b'L');
+    let ok = formed(position_letter(row.letter), first, mark, row.end);
     judge_position(ok, line, number(first), number(mark))
 }
 
@@ -208,7 +208,7 @@ fn move_fault(text: &[u8], n: usize, line: usize, row: Row, before: Row) -> Find
     let letter = row.letter;
     let first = row.first;
     let second = row.second;
-    let ok = formed(letter, first, second, row.end, b'M', b'D');
+    let ok = formed(move_letter(letter), first, second, row.end);
     let from = number(first);
     let to = number(second);
     let owner = letter_at(text, from + 1);
@@ -238,9 +238,23 @@ fn judge_move(
     if n <= to {
         return Finding::Fault(Misdrawn::Endpoint(line));
     }
+    judge_owner(n, line, letter, owner, rises)
+}
+
+// By the owner of the position moved from: no disturbance leaves an L, no meant move an R.
+fn judge_owner(n: usize, line: usize, letter: u8, owner: u8, rises: bool) -> Finding
+    requires { ⌜ 1 ≤ line ⌝ }
+    ensures { λ r. ⌜ r ≡ judgedOwner n line letter owner rises ⌝ }
+{
     if letter == b'D' {
         if owner == b'L' {
             return Finding::Fault(Misdrawn::Disturbed(line));
+        }
+        return judge_order(n, line, rises);
+    }
+    if letter == b'M' {
+        if owner == b'R' {
+            return Finding::Fault(Misdrawn::Resting(line));
         }
         return judge_order(n, line, rises);
     }
@@ -304,14 +318,39 @@ pub fn cost(letter: u8) -> u8
     if letter == b'D' { 1 } else { 0 }
 }
 
-// A line's letter is one of two, its fields are numbers, and a line feed ends it.
-fn formed(letter: u8, first: Field, second: Field, end: u8, a: u8, b: u8) -> bool
-    ensures { λ r. ⌜ r ≡ formed letter first second end a b ⌝ }
+// The letters of each kind of line: the header's, those of a position and those of a move.
+fn header_letter(letter: u8) -> bool
+    ensures { λ r. ⌜ r ≡ headerLetter letter ⌝ }
 {
-    if letter == a {
-        return numbered(first, second, end);
+    letter == b'H'
+}
+
+fn position_letter(letter: u8) -> bool
+    ensures { λ r. ⌜ r ≡ positionLetter letter ⌝ }
+{
+    if letter == b'O' {
+        return true;
     }
-    if letter == b {
+    if letter == b'L' {
+        return true;
+    }
+    letter == b'R'
+}
+
+fn move_letter(letter: u8) -> bool
+    ensures { λ r. ⌜ r ≡ moveLetter letter ⌝ }
+{
+    if letter == b'M' {
+        return true;
+    }
+    letter == b'D'
+}
+
+// A line's letter is allowed, its fields are numbers, and a line feed ends it.
+fn formed(allowed: bool, first: Field, second: Field, end: u8) -> bool
+    ensures { λ r. ⌜ r ≡ formed allowed first second end ⌝ }
+{
+    if allowed {
         return numbered(first, second, end);
     }
     false
@@ -346,15 +385,17 @@ fn flag_row(moves: bool, row: Row, flags: &mut [u8])
     }
 }
 
-// The lowest of n positions whose flag is 0.
-fn unflagged(flags: &[u8], n: usize) -> Finding
-    requires { ⌜ n ≤ length (now flags) ⌝ }
-    ensures { λ r. ⌜ r ≡ firstFault (unflaggedAt (now (flags .entry))) n 0 ⌝ }
+// The lowest of n positions whose flag is 0; one of rest needs none.
+fn unflagged(text: &[u8], flags: &[u8], n: usize) -> Finding
+    requires { ⌜ (n ≤ 512) × (n ≤ length (now flags)) ⌝ }
+    ensures { λ r. ⌜ r ≡ firstFault (unflaggedAt (now (text .entry)) (now (flags .entry))) n 0 ⌝ }
 {
     let mut v = 0;
     while v < n {
         if flags[v] == 0 {
-            return Finding::Fault(Misdrawn::NoMeant(v + 1));
+            if letter_at(text, v + 1) != b'R' {
+                return Finding::Fault(Misdrawn::NoMeant(v + 1));
+            }
         }
         v += 1;
     }

@@ -38,7 +38,7 @@ pub record FaultIs (text plate : List ℕ) (position condition : ℕ) : Type 0 w
   pub form : OfForm (chart .positions) plate
   pub first : FirstFaultIs (arenaOf text) (valueIn plate) (choiceIn plate) (stepIn plate) (headerIn plate) position condition
 
--- the condition of each refusal: 1 to 9 are the chart's, then 11 and 14; Checking gives no other
+-- the condition of each refusal: 1 to 9 and 17 are the chart's, then 11 and 14; Checking gives no other
 abbrev pub RefusedIs : List ℕ → List ℕ → Refusal → Type 0
 RefusedIs text plate (OfChart r) = examined text ≡ Turned r
 RefusedIs text plate (Plate line) = FormIs text plate line

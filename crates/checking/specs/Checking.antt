@@ -1,4 +1,4 @@
--- Checking (document 01, "The jobs" and the refusal table): "a chart and anybody's plate", refusals 1 to 9, then 11, then 14
+-- Checking (document 01, "The jobs" and the refusal table): "a chart and anybody's plate", refusals 1 to 9 and 17, then 11, then 14
 -- with the first fault's position and condition.
 use Prim.Native.Nat.{ℕ}
 use mathlib.Core.Path.{_≡_}

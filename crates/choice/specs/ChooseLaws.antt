@@ -10,13 +10,14 @@ use lib.ListN.{length, getD, take}
 use lib.Seq.{getD-set-same, getD-set-other, take-suc, take-all}
 use lib.Dec.{eqb, ltb}
 use borrow.Author.Tests.{eq-eqb, ne-eqb}
-use Rattle.rows.specs.RowsLaws.{to-inside}
+use Rattle.rows.specs.RowsLaws.{to-inside, owner-test}
 use Rattle.rows.specs.Rows.{RowIs, Stays, Within, RowsOf}
 use Rattle.rows.specs.Numbers.{numberOf}
 use Rattle.rows.specs.NumberLaws.{less-numbers, same-numbers}
 use Rattle.rows.specs.Filling.{setIf, setIf-stays}
 use Rattle.game.specs.Value.{Value, fin, ever, ltV, eqV}
-use Rattle.game.specs.Arena.{Arena, Move, Owner, controller, environment, ownerAt, moveAt, noMove}
+use Rattle.game.specs.Arena.{Arena, Move, Owner, controller, environment, nobody, ownerAt, moveAt, noMove}
+use Rattle.game.specs.Restrict.{isController}
 use Rattle.game.specs.Table.{meantFrom}
 use Rattle.game.specs.Best.{better, bestIn, bestAs, bestAt}
 use Rattle.choice.specs.Choose.{Chosen, isBetter, Fitting, ownMove, bestBelow, ValuesAre}
@@ -159,14 +160,15 @@ module _ (a : Arena) (n m : ℕ) (owners marks costs froms tos values : List ℕ
       ap (bestIn value v ever) (take-suc (a .moves) i noMove (omega arith)) ∙ best-snoc value v ever (take i (a .moves)) (moveAt a i) in
       rw (e, rec .0) one
 
-  none-so-far : ownerAt a v ≡ environment → (i : ℕ) → i ≤ m → bestBelow owners costs froms tos values i v ≡ 65535
+  -- and for any other
+  none-so-far : isController (ownerAt a v) ≡ false → (i : ℕ) → i ≤ m → bestBelow owners costs froms tos values i v ≡ 65535
   unfolding bestBelow ownMove
-  none-so-far own zero l = refl
-  none-so-far own (suc i) l = rw (none-so-far own i (omega arith), d .from i l) (go (ℕ-discrete (moveAt a i .from) v))
+  none-so-far other zero l = refl
+  none-so-far other (suc i) l = rw (none-so-far other i (omega arith), d .from i l) (go (ℕ-discrete (moveAt a i .from) v))
     where
       go : Dec (moveAt a i .from ≡ v)
           → cond (eqb (moveAt a i .from) v && ((eqb (getD costs i 0) 0 && eqb (getD owners (moveAt a i .from) 0) 0) && isBetter values 65535 (getD tos i 0))) (getD tos i 0) 65535 ≡ 65535
-      go (yes z) = rw (z, d .owner v inside, own, and-false, eq-eqb v v refl)
+      go (yes z) = rw (z, owner-test a n m owners marks costs froms tos d v inside, other, and-false, eq-eqb v v refl)
       go (no z) = rw (ne-eqb (moveAt a i .from) v z)
 
   pub chosen-is-best : bestBelow owners costs froms tos values m v ≡ numberOf (bestAt a value v)
@@ -178,7 +180,8 @@ module _ (a : Arena) (n m : ℕ) (owners marks costs froms tos values : List ℕ
 
       go : (o : Owner) → ownerAt a v ≡ o → bestBelow owners costs froms tos values m v ≡ numberOf (bestAs o a value v)
       go controller own = so-far own m (omega arith) .0 ∙ ap (λ (ms : List Move). numberOf (bestIn value v ever ms)) all
-      go environment own = none-so-far own m (omega arith)
+      go environment own = none-so-far (ap isController own) m (omega arith)
+      go nobody own = none-so-far (ap isController own) m (omega arith)
 
 pub choosing-done : {n m : ℕ} {owners costs froms tos values choices choices′ : List ℕ} → Within n m costs froms tos
     → {cleared : List ℕ} → Stays n choices cleared → Choosing n owners costs froms tos values m cleared choices′ → Chosen n m owners costs froms tos values choices choices′

@@ -1,4 +1,4 @@
--- Comparing, computed, with its refusals in the table's order: 1 to 9, then 10 for the row of choices, 11 for the plate's form, 12 for a
+-- Comparing, computed, with its refusals in the table's order: 1 to 9 and 17, then 10 for the row of choices, 11 for the plate's form, 12 for a
 -- choice that is not legal, 14 for the plate's first fault, and then the first position where the plate's values and the controller's
 -- worths differ.
 use Prim.Native.Nat.{ℕ}

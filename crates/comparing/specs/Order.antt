@@ -1,4 +1,4 @@
--- The refusals in the table's order, each under its own condition: 1 to 9, then 10, 11, 12 and 14, and where none holds the rows are
+-- The refusals in the table's order, each under its own condition: 1 to 9 and 17, then 10, 11, 12 and 14, and where none holds the rows are
 -- compared.
 use Prim.Native.Nat.{ℕ, _≤_, _<_}
 use mathlib.Core.Path.{_≡_, ap, _∙_}

@@ -17,7 +17,7 @@ isEver l = eqb (l .value) 65535
 abbrev pub isController : Line → Bool
 isController l = eqb (l .owner) 0
 
--- the first of conditions 1, 2 and, at L, 3 that fails, 0 if none does
+-- the first of conditions 1, 2 and, at L and R, 3 that fails, 0 if none does
 unfoldable pub beforeMoves : Line → ℕ
 beforeMoves l =
     cond (isUnsafe l && not (eqb (l .value) 0)) 1
@@ -40,7 +40,7 @@ pub record Rank (value step r : ℕ) : Type 0 where
   pub is : r ≡ value * 65536 + step
   pub low : step < 65536
 
--- what a meant move shows: at O the choice must hold, at L every target; ruin goes at L by one that is earlier
+-- what a meant move shows: at O the choice must hold, at L every target; ruin goes at L by one that is earlier. R has no meant move.
 abbrev pub shownMeant : Line → Target → Seen
 shownMeant l t =
     record {

@@ -43,7 +43,7 @@ impl Seen {
     }
 }
 
-// The first of conditions 1, 2 and, at L, 3 that fails; 0 if none does.
+// The first of conditions 1, 2 and, at L and R, 3 that fails; 0 if none does.
 pub fn before_moves(line: Line) -> u8
     ensures { λ r. ⌜ r ≡ beforeMoves line ⌝ }
 {

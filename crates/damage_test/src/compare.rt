@@ -20,7 +20,7 @@ use writing::Written;
 use writing::write_plate;
 
 // Answers by their number, 0 for accepted ones, and what follows.
-pub type Tally = [usize; 13];
+pub type Tally = [usize; 14];
 
 const BLANK: usize = 10;
 
@@ -28,21 +28,24 @@ const BLANK_ACCEPTED: usize = 11;
 
 const MISMATCHES: usize = 12;
 
+// Answers with number 17.
+pub const RESTING: usize = 13;
+
 // Room for a small chart's plate, and for all its good moves.
 type Sheet = [u8; 2048];
 
 fn add(tally: &mut Tally, k: usize) {
-    tally[k % 13] = tally[k % 13] % 1000000000 + 1;
+    tally[k % 14] = tally[k % 14] % 1000000000 + 1;
 }
 
 // Draws a chart, damages it by a kind, and compares.
-pub fn compare_drawn(kind: usize, seed: &mut usize, tally: &mut Tally) {
+pub fn compare_drawn(kind: usize, rests: bool, seed: &mut usize, tally: &mut Tally) {
     let mut page = [b'#'; 4096];
-    let lines = draw(&mut page, seed) % 341;
+    let lines = draw(&mut page, rests, seed) % 341;
     let size = if kind == 0 {
         lines * 12
     } else {
-        damage(&mut page, lines * 12, kind, seed)
+        damage(&mut page, lines * 12, kind, rests, seed)
     };
     let mut filled = page;
     let blanks = fill(&mut filled, size);
@@ -119,7 +122,7 @@ fn compare_sheets(text: &[u8], filled: &[u8], expected: Answer, tally: &mut Tall
 }
 
 fn count(number: usize, blanks: usize, tally: &mut Tally) {
-    add(tally, number);
+    add(tally, if number == 17 { RESTING } else { number });
     if 0 < blanks {
         add(tally, BLANK);
         if number == 0 {

@@ -6,44 +6,60 @@ use crate::draw::less;
 use crate::draw::put_field;
 use crate::table::number;
 
-// Damages a text by a kind, the last of which is two of the others, half of the time at one line. Answers its length.
-pub fn damage(page: &mut Page, size: usize, kind: usize, seed: &mut usize) -> usize {
+// Damages a text by a kind: one of the first nine, or two of these, half of the time at one line. Where the chart has positions of
+// rest, the damage makes some, and takes some away. Answers the text's length.
+pub fn damage(page: &mut Page, size: usize, kind: usize, rests: bool, seed: &mut usize) -> usize {
     let line = below(seed, size / 12);
-    if kind < 9 {
-        return damage_line(page, size, line, kind, seed);
+    if kind < 10 {
+        return damage_line(page, size, line, kind, rests, seed);
     }
-    let first = kind_of(below(seed, 16));
-    let left = damage_line(page, size, line, first, seed);
+    let first = kind_of(below(seed, 16), rests);
+    let left = damage_line(page, size, line, first, rests, seed);
     let other = below(seed, left / 12 * 2);
-    let second = kind_of(below(seed, 16));
+    let second = kind_of(below(seed, 16), rests);
     let at = if other < left / 12 { other } else { line };
-    damage_line(page, left, at, second, seed)
+    damage_line(page, left, at, second, rests, seed)
 }
 
 // Those kinds more often that leave the text its lines and its header.
-fn kind_of(code: usize) -> usize {
+fn kind_of(code: usize, rests: bool) -> usize {
     let kinds = [1, 1, 2, 2, 2, 2, 2, 3, 3, 3, 3, 4, 5, 6, 7, 8];
-    kinds[code % 16]
+    let resting = [1, 2, 2, 2, 2, 3, 3, 3, 3, 9, 9, 4, 5, 6, 7, 8];
+    if rests {
+        resting[code % 16]
+    } else {
+        kinds[code % 16]
+    }
 }
 
-fn damage_line(page: &mut Page, size: usize, line: usize, kind: usize, seed: &mut usize) -> usize {
+fn damage_line(
+    page: &mut Page,
+    size: usize,
+    line: usize,
+    kind: usize,
+    rests: bool,
+    seed: &mut usize,
+) -> usize {
     let at = line % 341 * 12;
     match kind {
-        1 => change_byte(page, at + below(seed, 12) % 12, seed),
+        1 => change_byte(page, at + below(seed, 12) % 12, rests, seed),
         2 => change_field(page, at, seed),
-        3 => page[at] = draw_letter(page[at], below(seed, 16)),
+        3 => page[at] = draw_letter(page[at], below(seed, 16), rests),
         4 => shift(page, at + 12, at),
         5 => shift(page, at, at + 12),
         6 => exchange(page, at, below(seed, size / 12) % 341 * 12),
         7 => change_field(page, 0, seed),
+        9 => move_from_rest(page, size, line, seed),
         _ => {}
     }
     resized(page, size % 4096, kind, seed)
 }
 
-fn change_byte(page: &mut Page, at: usize, seed: &mut usize) {
+fn change_byte(page: &mut Page, at: usize, rests: bool, seed: &mut usize) {
     let bytes = *b"      00011123459HOLMDhod\t\n\r-+.\0";
-    page[at % 4096] = bytes[below(seed, 32) % 32];
+    let resting = *b"      00011123459HOLRMDor\t\n\r-+.\0";
+    let x = below(seed, 32) % 32;
+    page[at % 4096] = if rests { resting[x] } else { bytes[x] };
 }
 
 fn change_field(page: &mut Page, at: usize, seed: &mut usize) {
@@ -64,17 +80,39 @@ fn draw_number(kind: usize, small: usize, code: usize) -> usize {
     }
 }
 
-// Mostly the other letter that is allowed there.
-fn draw_letter(letter: u8, code: usize) -> u8 {
+// Mostly another letter that is allowed there.
+fn draw_letter(letter: u8, code: usize, rests: bool) -> u8 {
     if code < 4 {
         let letters = *b"OLMH";
         return letters[code];
     }
+    let resting = rests & (code % 2 == 0);
     match letter {
-        b'O' => b'L',
-        b'L' => b'O',
+        b'O' => { if resting { b'R' } else { b'L' } }
+        b'L' => { if resting { b'R' } else { b'O' } }
+        b'R' => { if resting { b'L' } else { b'O' } }
         b'M' => b'D',
         _ => b'M',
+    }
+}
+
+// Makes a move line a meant move from a position, and that one of rest.
+fn move_from_rest(page: &mut Page, size: usize, line: usize, seed: &mut usize) {
+    let n = header_number(page, 1);
+    let v = below(seed, n);
+    let at = move_line(size, n % 16 + 1, line) % 341 * 12;
+    page[at] = b'M';
+    put_field(page, at + 1, v);
+    page[v % 16 * 12 + 12] = b'R';
+}
+
+// A line of those from the first move on.
+fn move_line(size: usize, first: usize, line: usize) -> usize {
+    let count = less(size / 12, first);
+    if count == 0 {
+        line
+    } else {
+        first % 341 + line % count % 341
     }
 }
 

@@ -59,11 +59,11 @@ pub fn put_line(page: &mut Page, i: usize, letter: u8, a: usize, b: usize) {
     page[at + 11] = b'\n';
 }
 
-// Writes a chart of 1 to 12 positions, and answers how many lines it has.
-pub fn draw(page: &mut Page, seed: &mut usize) -> usize {
+// Writes a chart of 1 to 12 positions, some of rest where that is asked for, and answers how many lines it has.
+pub fn draw(page: &mut Page, rests: bool, seed: &mut usize) -> usize {
     let most = below(seed, 12) % 12 + 1;
     let n = below(seed, most) % 12 + 1;
-    draw_positions(page, n, seed);
+    draw_positions(page, n, rests, seed);
     let lines = draw_moves(page, n, seed) % 341;
     put_line(page, 0, b'H', n, less(lines, n + 1));
     lines
@@ -73,13 +73,21 @@ pub fn less(a: usize, b: usize) -> usize {
     if a < b { 0 } else { a - b }
 }
 
-fn draw_positions(page: &mut Page, n: usize, seed: &mut usize) {
+fn draw_positions(page: &mut Page, n: usize, rests: bool, seed: &mut usize) {
     let mut v = 0;
     while v < n {
-        let letter = if below(seed, 3) == 0 { b'L' } else { b'O' };
+        let letter = draw_owner(rests, seed);
         put_line(page, v + 1, letter, v, draw_mark(below(seed, 6)));
         v += 1;
     }
+}
+
+fn draw_owner(rests: bool, seed: &mut usize) -> u8 {
+    let letter = if below(seed, 3) == 0 { b'L' } else { b'O' };
+    if !rests {
+        return letter;
+    }
+    if below(seed, 3) == 0 { b'R' } else { letter }
 }
 
 fn draw_mark(x: usize) -> usize {
@@ -103,9 +111,15 @@ fn draw_moves(page: &mut Page, n: usize, seed: &mut usize) -> usize {
 }
 
 fn draw_from(page: &mut Page, n: usize, v: usize, next: usize, seed: &mut usize) -> usize {
+    let owner = page[v % 16 * 12 + 12];
     let sure = below(seed, n);
+    if owner == b'R' {
+        // A chart has a move: the last position has one where no other has.
+        let only = (v % 16 + 1 == n) & (next == n % 16 + 1);
+        return draw_kind(page, n, v, b'D', next, if only { sure } else { n }, seed);
+    }
     let after = draw_kind(page, n, v, b'M', next, sure, seed);
-    if page[v % 16 * 12 + 12] == b'L' {
+    if owner == b'L' {
         return after;
     }
     draw_kind(page, n, v, b'D', after, n, seed)

@@ -1,5 +1,5 @@
-// Refusals 1 to 9 by document 01's table, with blank marks: 1, then line by line what is tested of each, then 9. A field is read by its
-// spelling: it is the number that is written with its five bytes.
+// Refusals 1 to 9 by document 01's table, with blank marks, and 17 by document 02: 1, then line by line what is tested of each, then 9. A
+// field is read by its spelling: it is the number that is written with its five bytes.
 use crate::draw::NONE;
 use crate::draw::glyph;
 use crate::draw::less;
@@ -71,7 +71,7 @@ fn fault_at(text: &[u8], i: usize, lines: usize) -> usize {
 fn header_fault(text: &[u8], lines: usize) -> usize {
     let n = number(text, 0, 1);
     let m = number(text, 0, 6);
-    if !formed(text, 0, b'H', b'H', n, m) {
+    if !formed(text, 0, byte(text, 0, 0) == b'H', n, m) {
         return 2;
     }
     if (n < 1) | (512 < n) {
@@ -91,13 +91,18 @@ fn header_fault(text: &[u8], lines: usize) -> usize {
 fn position_fault(text: &[u8], i: usize) -> usize {
     let v = number(text, i, 1);
     let mark = mark(text, i);
-    if !formed(text, i, b'O', b'L', v, mark) {
+    if !formed(text, i, is_owner(byte(text, i, 0)), v, mark) {
         return 2;
     }
     if v % 1000000 + 1 != i {
         return 5;
     }
     if 1 < mark { 5 } else { 0 }
+}
+
+// The console, the lane, or rest.
+fn is_owner(letter: u8) -> bool {
+    (letter == b'O') | (letter == b'L') | (letter == b'R')
 }
 
 // A blank mark means 0.
@@ -108,21 +113,24 @@ fn mark(text: &[u8], i: usize) -> usize {
     number(text, i, 6)
 }
 
-// 2, then a position from n up, a disturbance from L, and not above the move before.
+// 2, then a position from n up, a disturbance from L or a meant move from R, and not above the move before.
 fn move_fault(text: &[u8], i: usize) -> usize {
     let n = number(text, 0, 1);
     let from = number(text, i, 1);
     let to = number(text, i, 6);
-    if !formed(text, i, b'M', b'D', from, to) {
+    let letter = byte(text, i, 0);
+    if !formed(text, i, (letter == b'M') | (letter == b'D'), from, to) {
         return 2;
     }
     if (n <= from) | (n <= to) {
         return 6;
     }
-    if byte(text, i, 0) == b'D' {
-        if byte(text, from % 8192 + 1, 0) == b'L' {
-            return 7;
-        }
+    let owner = byte(text, from % 8192 + 1, 0);
+    if (letter == b'D') & (owner == b'L') {
+        return 7;
+    }
+    if (letter == b'M') & (owner == b'R') {
+        return 17;
     }
     if i == n % 1024 + 1 {
         return 0;
@@ -140,25 +148,31 @@ fn rank(text: &[u8], i: usize) -> usize {
     (number(text, i, 1) % 1000000 * 2 + kind % 2) * 1000000 + number(text, i, 6) % 1000000
 }
 
-// One of two letters, two numbers, a line feed.
-fn formed(text: &[u8], i: usize, one: u8, other: u8, a: usize, b: usize) -> bool {
-    let letter = byte(text, i, 0);
-    let named = (letter == one) | (letter == other);
+// A letter that is allowed, two numbers, a line feed.
+fn formed(text: &[u8], i: usize, named: bool, a: usize, b: usize) -> bool {
     let numbers = (a != NONE) & (b != NONE);
     named & numbers & (byte(text, i, 11) == 10)
 }
 
-// 9, at the line of the lowest position without a meant move.
+// 9, at the line of the lowest position without a meant move, of O and L only.
 fn judge_meant(text: &[u8]) -> Answer {
     let n = number(text, 0, 1);
     let mut v = 0;
     while v < n {
-        if !has_meant(text, v) {
+        if lacks_meant(text, v) {
             return refused(9, v + 1);
         }
         v += 1;
     }
     accepted(n)
+}
+
+// A position of rest lacks none.
+fn lacks_meant(text: &[u8], v: usize) -> bool {
+    if byte(text, v % 8192 + 1, 0) == b'R' {
+        return false;
+    }
+    !has_meant(text, v)
 }
 
 fn has_meant(text: &[u8], v: usize) -> bool {

@@ -70,7 +70,7 @@ Clear (row ∷ rest) = ((y : Refusal) → row y → ⊥) × Clear rest
 abbrev pub only : Refusal → Type 0 → Row
 only y condition x = (x ≡ y) × condition
 
--- 1 to 9, which have an order of their own: r applies to the chart and nothing before it does (chart/specs/Refusals.antt)
+-- 1 to 9 and 17, which have an order of their own: r applies to the chart and nothing before it does (chart/specs/Refusals.antt)
 abbrev pub misdrawn : (text : List ℕ) → Row
 misdrawn text x = (r : Misdrawn) × (x ≡ OfChart r) × First text r
 

@@ -129,7 +129,7 @@ module _ {A : Type 0} {answer : A} {refused : Refusal → A} (injective : (x y :
   test-row {y} true t turns rest = row-fails (λ z h. t .0 refl (h .1)) (rest refl)
   test-row {y} false t turns rest = row-holds (λ z h. turns refl ∙ ap refused (sym (h .0))) y (refl, t .1 refl)
 
-  -- 1 to 9
+  -- 1 to 9 and 17
   chart-row : (text : List ℕ) {rest : List Row} → ((r : Misdrawn) → examined text ≡ Turned r → answer ≡ refused (OfChart r))
       → ((chart : Chart) → examined text ≡ Taken chart → Settled answer refused rest) → Settled answer refused (misdrawn text ∷ rest)
   chart-row text {rest} turns takes = go (examined text) refl

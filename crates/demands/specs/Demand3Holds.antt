@@ -14,7 +14,7 @@ use Rattle.rows.specs.Numbers.{numberOf, valueOf, rowValue}
 use Rattle.rows.specs.NumberLaws.{Fits, value-of-number, number-of-value}
 use Rattle.game.specs.Value.{Value, fin, _≼_, eqV}
 use Rattle.game.specs.ValueLaws.{eqV-sound, ≼antisym}
-use Rattle.game.specs.Arena.{Owner, controller, environment, WellFormed, size, ownerAt}
+use Rattle.game.specs.Arena.{Owner, controller, environment, nobody, WellFormed, size, ownerAt}
 use Rattle.game.specs.Play.{still, Controller, Legal, LegalAs, last, targetOf, positional}
 use Rattle.game.specs.Worth.{WorthIs, AtMost, IsValue}
 use Rattle.game.specs.Bounds.{value-is-bounds, worth-is-both-bounds, bounds-in-order}
@@ -150,6 +150,7 @@ module _ {text plate values choices : List ℕ} (p : ReadPlate text plate values
               differ (c .1 ∙ ap fin t ∙ sym (g .1)),
         )
         go environment e c g = absurd (differ (c ∙ sym g))
+        go nobody e c g = absurd (differ (c ∙ sym g))
 
     -- and from the weak form for every OTHER controller alone: where the plate's own controller is the given one, the rows agree anyway
     pub others-suffice : ((τ : Controller (arenaOf text)) → Other (controllerOf w) τ → WorthAtMost text worths τ) → RowsAgree text values worths

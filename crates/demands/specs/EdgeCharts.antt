@@ -1,4 +1,5 @@
--- The twelve charts at the edges (document 01, "Charts at the edges"), as texts, with what is expected of each, gathered into one list.
+-- The twelve charts at the edges (document 01, "Charts at the edges"), as texts, with what is expected of each, gathered into one list; and
+-- another list for positions of rest (document 02, order 4).
 use Prim.Native.Nat.{ℕ, _<_}
 use mathlib.Core.Path.{_≡_}
 use mathlib.Core.List.{List, [], _∷_, _++_}
@@ -65,6 +66,9 @@ O v mark = chartLine 79 v mark
 
 abbrev L : ℕ → ℕ → List ℕ
 L v mark = chartLine 76 v mark
+
+abbrev R : ℕ → ℕ → List ℕ
+R v mark = chartLine 82 v mark
 
 abbrev M : ℕ → ℕ → List ℕ
 M v w = chartLine 77 v w
@@ -148,6 +152,31 @@ edgeCharts =
     ∷ record { text = H 1 1 ++ O 0 0 ++ D 0 0; expected = refusal 9 1 }
     -- l: "refusal 8 above", M 0 0 twice
     ∷ record { text = H 1 2 ++ O 0 0 ++ M 0 0 ++ M 0 0; expected = refusal 8 3 }
+    ∷ []
+
+-- positions of rest
+unfoldable pub restCharts : List Edge
+restCharts =
+    -- "A safe R is placed only by a disturbance, so without one it is "ever"": here L's only target
+    record { text = H 2 1 ++ L 0 0 ++ R 1 0 ++ M 0 1; expected = plate (ever ∷ ever ∷ []) (ever ∷ ever ∷ []) (ever ∷ ever ∷ []) 0 ever 2 }
+    -- disturbed into an unsafe R: value 1, step 0; nothing but R, and no meant move
+    ∷ record { text = H 2 1 ++ R 0 0 ++ R 1 1 ++ D 0 1; expected = plate (fin 1 ∷ fin 0 ∷ []) (ever ∷ ever ∷ []) (fin 0 ∷ fin 0 ∷ []) 2 (fin 1) 0 }
+    -- disturbed into "ever"
+    ∷ record { text = H 2 1 ++ R 0 0 ++ R 1 0 ++ D 0 1; expected = plate (ever ∷ ever ∷ []) (ever ∷ ever ∷ []) (ever ∷ ever ∷ []) 0 ever 2 }
+    -- disturbed into itself
+    ∷ record { text = H 1 1 ++ R 0 0 ++ D 0 0; expected = plate (ever ∷ []) (ever ∷ []) (ever ∷ []) 0 ever 1 }
+    -- O whose only target is an R that a disturbance leads from into an unsafe L: both have value 1, R at step 0
+    ∷ record {
+      text = H 3 3 ++ O 0 0 ++ R 1 0 ++ L 2 1 ++ M 0 1 ++ D 1 2 ++ M 2 2;
+      expected = plate (fin 1 ∷ fin 1 ∷ fin 0 ∷ []) (fin 1 ∷ ever ∷ ever ∷ []) (fin 1 ∷ fin 0 ∷ fin 0 ∷ []) 3 (fin 1) 0;
+    }
+    -- 17, "a meant move from R", on the line of the move
+    ∷ record { text = H 1 1 ++ R 0 0 ++ M 0 0; expected = refusal 17 2 }
+    -- before 8 on the same line, after 6
+    ∷ record { text = H 2 2 ++ R 0 0 ++ O 1 0 ++ M 1 0 ++ M 0 0; expected = refusal 17 4 }
+    ∷ record { text = H 1 1 ++ R 0 0 ++ M 0 1; expected = refusal 6 2 }
+    -- "Refusal 9 is for O and L only"
+    ∷ record { text = H 2 1 ++ R 0 0 ++ O 1 0 ++ D 1 0; expected = refusal 9 2 }
     ∷ []
 
 -- chart a's plate, byte for byte as document 01 prints it

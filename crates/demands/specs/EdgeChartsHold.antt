@@ -1,4 +1,4 @@
--- What is expected of the twelve charts holds of the definitions: one test that is computed over the whole list, and one law that makes
+-- What is expected of the charts at the edges holds of the definitions: one test that is computed over each list, and one law that makes
 -- of a passed test what the definitions say.
 use Prim.Native.Nat.{ℕ, zero, suc, _<_}
 use native.Mathlib.Omega.{arith}
@@ -29,14 +29,14 @@ use Rattle.game.specs.FirstLine.{firstOfPair, pairCount, higher, highest, everC
 use Rattle.field.specs.Text.{digitAfter, stepped, scan, ended, fieldOf, five, fieldAt, placeByte, numberText}
 use Rattle.chart.specs.Text.{letterAt, firstAt, secondAt, endAt, markOf, markAt, fieldNumber, isNumber, positionsOf, movesOf, fromAt, toAt}
 use Rattle.chart.specs.Meaning.{ownerOf, costOf, positionOn, moveOn, arenaOf}
-use Rattle.chart.specs.Examined.{numbered, formed, headerFormed, positionFormed, moveFormed, limitsOf, headerOf, judgedPosition, positionFinding, above, rises, ordered, judgedMove, moveFinding, lineFinding, orElse, meantLine, meantIn, missingAt, unflaggedAt, answer, afterHeader, linesAfter, examined}
+use Rattle.chart.specs.Examined.{numbered, headerLetter, positionLetter, moveLetter, formed, headerFormed, positionFormed, moveFormed, limitsOf, headerOf, judgedPosition, positionFinding, above, rises, ordered, judgedOwner, judgedMove, moveFinding, lineFinding, orElse, meantLine, meantIn, missingAt, unflaggedAt, answer, afterHeader, linesAfter, examined}
 use Rattle.chart.specs.Accepted.{accepted-chartable}
 use Rattle.chart.specs.Exact.{refused-exactly, accepted-exactly}
 use Rattle.refusal.specs.Numbers.{misdrawnNumber, misdrawnLine}
 use Rattle.rows.specs.declared.Chart.{Chart}
 use Rattle.chart.specs.declared.Examination.{Examination}
 use Rattle.chart.specs.declared.Examination.the-variants.{Accepted, Refused}
-use Rattle.demands.specs.EdgeCharts.{Expected, refusal, plate, Edge, entry, PlateHolds, RefusalHolds, Holds, documentChart, documentPlate, edgeCharts}
+use Rattle.demands.specs.EdgeCharts.{Expected, refusal, plate, Edge, entry, PlateHolds, RefusalHolds, Holds, documentChart, documentPlate, edgeCharts, restCharts}
 use Rattle.line.specs.Text.{dashText, everText, entryText, fieldsText, lineText}
 use Rattle.line.specs.Joined.{joined}
 use Rattle.plate.specs.Text.{valueEntry, dashEntry, headerLine, positionLine, positionLines, plateText}
@@ -80,7 +80,7 @@ countsRight n values steps rounds top evers =
 
 -- computed, with all that they stand on
 unfoldable pub passes : List ℕ → Expected → Bool
-unfolding examined linesAfter afterHeader answer unflaggedAt missingAt meantIn meantLine firstFrom orElse lineFinding moveFinding judgedMove ordered rises above positionFinding judgedPosition headerOf limitsOf moveFormed positionFormed headerFormed formed numbered toAt fromAt movesOf positionsOf isNumber fieldNumber markOf markAt endAt secondAt firstAt letterAt fieldAt five fieldOf ended scan stepped digitAfter lineText fieldsText entryText numberText placeByte arenaOf joined positionOn moveOn ownerOf costOf isRefused isAccepted rowsRight countsRight agree eqV ltV roundValue roundStep placedValue placedStep table tableBefore tableAfter place isPlaced hasValue begins ready readyAs someMove everyMove meantFrom disturbanceFrom bestAt bestAs bestIn better pairCount firstOfPair countBelow someBelow highest higher everCount
+unfolding examined linesAfter afterHeader answer unflaggedAt missingAt meantIn meantLine firstFrom orElse lineFinding moveFinding judgedMove judgedOwner ordered rises above positionFinding judgedPosition headerOf limitsOf moveFormed positionFormed headerFormed formed moveLetter positionLetter headerLetter numbered toAt fromAt movesOf positionsOf isNumber fieldNumber markOf markAt endAt secondAt firstAt letterAt fieldAt five fieldOf ended scan stepped digitAfter lineText fieldsText entryText numberText placeByte arenaOf joined positionOn moveOn ownerOf costOf isRefused isAccepted rowsRight countsRight agree eqV ltV roundValue roundStep placedValue placedStep table tableBefore tableAfter place isPlaced hasValue begins ready readyAs someMove everyMove meantFrom disturbanceFrom bestAt bestAs bestIn better pairCount firstOfPair countBelow someBelow highest higher everCount
 passes text (refusal number line) = isRefused (examined text) number line
 passes text (plate values choices steps rounds top evers) =
     isAccepted (examined text) && (rowsRight (arenaOf text) values choices steps && countsRight (size (arenaOf text)) values steps rounds top evers)
@@ -172,6 +172,10 @@ all-hold (x ∷ xs) h e m =
 pub edge-charts-hold : (e : Edge) → List·Memᴰ e edgeCharts → Holds (e .text) (e .expected)
 unfolding allPass edgeCharts
 edge-charts-hold e m = all-hold edgeCharts tt e m
+
+pub rest-charts-hold : (e : Edge) → List·Memᴰ e restCharts → Holds (e .text) (e .expected)
+unfolding allPass restCharts
+rest-charts-hold e m = all-hold restCharts tt e m
 
 -- chart a's plate is the bytes that document 01 prints
 pub document-plate : plateOf (arenaOf documentChart) ≡ documentPlate

@@ -6,6 +6,7 @@ pub mod Journal
 pub mod Demand3
 pub mod BlankMarks
 pub mod GoodMoves
+pub mod Rest
 pub mod EdgeCharts
 pub mod SanctionedLaws
 pub mod Demand1Holds
@@ -14,4 +15,5 @@ pub mod Printed
 pub mod Demand3Holds
 pub mod BlankMarksHold
 pub mod GoodMovesHold
+pub mod RestHolds
 pub mod EdgeChartsHold

@@ -6,10 +6,12 @@ use mathlib.Core.List.{List, List·Memᴰ}
 use lib.ListN.{length, getD}
 use lib.Dec.{T, eqb}
 
--- who chooses the next move: the controller (`O`, the console) or the environment (`L`, the lane: machine or bowler)
+-- who chooses the next move: the controller (`O`, the console), the environment (`L`, the lane: machine or bowler), or nobody (`R`, a
+-- position of rest, where a cycle may end: document 02, order 4)
 pub data Owner : Type 0 where
   controller : Owner
   environment : Owner
+  nobody : Owner
 
 -- mark 0 is safe, mark 1 unsafe
 pub record Position : Type 0 where
@@ -30,7 +32,7 @@ pub record Arena : Type 0 where
 abbrev pub size : Arena → ℕ
 size a = length (a .positions)
 
--- what `positionAt` gives for a number that is no position: nobody's to steer, and not unsafe
+-- what `positionAt` gives for a number that is no position: not the controller's, and not unsafe
 abbrev pub nowhere : Position
 nowhere = record { owner = environment; mark = 0 }
 
@@ -65,15 +67,23 @@ Meant a v w = List·Memᴰ (meantMove v w) (a .moves)
 abbrev pub Disturbance : Arena → ℕ → ℕ → Type 0
 Disturbance a v w = (c : ℕ) × List·Memᴰ (disturbanceMove (suc c) v w) (a .moves)
 
--- "Disturbances leave O positions only."
+-- "Disturbances leave O positions only", and those of rest: R "may have disturbances"
 abbrev pub mayBeDisturbed : Owner → Bool
 mayBeDisturbed controller = true
 mayBeDisturbed environment = false
+mayBeDisturbed nobody = true
 
--- What plays need of an arena: moves join positions, "Disturbances leave O positions only. Each position has a meant move."
+-- "letter `R` is a position without meant moves"; O and L have some
+abbrev pub hasMeant : Owner → Bool
+hasMeant controller = true
+hasMeant environment = true
+hasMeant nobody = false
+
+-- What plays need of an arena: moves join positions, disturbances leave O and R only, each O and L position has a meant move, an R has none.
 pub record WellFormed (a : Arena) : Type 0 where
   pub kind : (m : Move) → List·Memᴰ m (a .moves) → m .cost < 2
   pub from-position : (m : Move) → List·Memᴰ m (a .moves) → m .from < size a
   pub to-position : (m : Move) → List·Memᴰ m (a .moves) → m .to < size a
   pub disturbed : (v w : ℕ) → Disturbance a v w → T (mayBeDisturbed (ownerAt a v))
-  pub meant : (v : ℕ) → v < size a → (w : ℕ) × Meant a v w
+  pub resting : (v w : ℕ) → Meant a v w → T (hasMeant (ownerAt a v))
+  pub meant : (v : ℕ) → v < size a → T (hasMeant (ownerAt a v)) → (w : ℕ) × Meant a v w

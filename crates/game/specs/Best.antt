@@ -4,7 +4,7 @@ use mathlib.Core.Bool.{cond, _&&_, _||_}
 use mathlib.Core.List.{List, [], _∷_}
 use lib.Dec.{ltb}
 use Rattle.game.specs.Value.{Value, fin, ever, ltV, eqV}
-use Rattle.game.specs.Arena.{Arena, Move, Owner, controller, environment, ownerAt}
+use Rattle.game.specs.Arena.{Arena, Move, Owner, controller, environment, nobody, ownerAt}
 use Rattle.game.specs.Table.{meantFrom}
 
 -- the better of the best so far (a dash before the first) and w: of greater value, or the lower number among equals
@@ -20,6 +20,7 @@ bestIn value v best (m ∷ ms) = bestIn value v (cond (meantFrom v m) (better va
 unfoldable pub bestAs : Owner → Arena → (ℕ → Value) → ℕ → Value
 bestAs controller a value v = bestIn value v ever (a .moves)
 bestAs environment a value v = ever
+bestAs nobody a value v = ever
 
 -- the choice at v
 unfoldable pub bestAt : Arena → (ℕ → Value) → ℕ → Value

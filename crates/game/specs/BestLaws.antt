@@ -8,7 +8,7 @@ use mathlib.Core.Bool.{Bool, true, false, cond, _&&_, _||_, not}
 use mathlib.Core.List.{List, [], _∷_, List·Memᴰ, List·Memᴰ·head, List·Memᴰ·tail, List·Memᴰ·cases-cons, List·Memᴰ·not-nil}
 use lib.Dec.{T, ltb, ltb→lt, nltb→le, T-not}
 use Rattle.game.specs.Value.{Value, fin, ever, _≼_, _≺_, ltV, eqV}
-use Rattle.game.specs.Arena.{Arena, Move, Owner, controller, environment, WellFormed, size, ownerAt, Meant, meantMove}
+use Rattle.game.specs.Arena.{Arena, Move, Owner, controller, environment, nobody, WellFormed, size, ownerAt, Meant, meantMove, hasMeant}
 use Rattle.game.specs.Play.{LegalAs, Legal}
 use Rattle.game.specs.Choice.{IsChoiceAs, IsChoice}
 use Rattle.game.specs.Table.{meantFrom}
@@ -159,9 +159,10 @@ module _ (value : ℕ → Value) where
 
 -- "The choice at O is the meant target of greatest value, the lowest number among equals"
 module _ (a : Arena) (value : ℕ → Value) where
-  best-as : (o : Owner) (v : ℕ) → (w : ℕ) × Meant a v w → IsChoiceAs o a value v (bestAs o a value v)
+  best-as : (o : Owner) (v : ℕ) → (T (hasMeant o) → (w : ℕ) × Meant a v w) → IsChoiceAs o a value v (bestAs o a value v)
   unfolding bestAs
-  best-as controller v m =
+  best-as controller v some =
+      let m = some tt in
       let r = walk value v ever (a .moves) (m .0) (inr (m .1)) in (
         r .0,
         r .1 .is,
@@ -175,7 +176,8 @@ module _ (a : Arena) (value : ℕ → Value) where
       meant : {w : ℕ} → (_≡_ {A = Value} ever (fin w)) ⊎ Meant a v w → Meant a v w
       meant {w} (inl e) = absurd (fin-is-not-ever w (sym e))
       meant (inr h) = h
-  best-as environment v m = refl
+  best-as environment v some = refl
+  best-as nobody v some = refl
 
   pub best-is-the-choice : WellFormed a → (v : ℕ) → v < size a → IsChoice a value v (bestAt a value v)
   unfolding bestAt
@@ -190,6 +192,7 @@ module _ (a : Arena) (value : ℕ → Value) where
       let j = q .2 .lowest w (p .2 .target) (sym e) in
       p .1 ∙ ap fin (omega arith) ∙ sym (q .1)
   choice-unique-as environment v x y p q = p ∙ sym q
+  choice-unique-as nobody v x y p q = p ∙ sym q
 
   pub choice-is-unique : (v : ℕ) (x y : Value) → IsChoice a value v x → IsChoice a value v y → x ≡ y
   choice-is-unique v x y p q = choice-unique-as (ownerAt a v) v x y p q
@@ -197,6 +200,7 @@ module _ (a : Arena) (value : ℕ → Value) where
   legal-as : (o : Owner) (v : ℕ) (x : Value) → IsChoiceAs o a value v x → LegalAs o a v x
   legal-as controller v x c = (c .0, c .1, c .2 .target)
   legal-as environment v x c = c
+  legal-as nobody v x c = c
 
   pub best-is-legal : WellFormed a → Legal a (bestAt a value)
   best-is-legal wf v h = legal-as (ownerAt a v) v (bestAt a value v) (best-is-the-choice wf v h)

@@ -4,7 +4,7 @@ use Prim.Native.Nat.{ℕ, _<_}
 use mathlib.Core.Path.{_≡_, refl, sym, subst, subst₂, _∙_}
 use mathlib.Core.Logic.{inl, inr, ⊎-map}
 use Rattle.game.specs.Value.{Value, _≼_, _≺_, _⊕_}
-use Rattle.game.specs.Arena.{Arena, Owner, controller, environment, size, ownerAt, Meant, WellFormed}
+use Rattle.game.specs.Arena.{Arena, Owner, controller, environment, nobody, size, ownerAt, Meant, WellFormed}
 use Rattle.game.specs.Play.{disturbanceCost, targetOf, LegalAs, Legal}
 use Rattle.game.specs.Certificate.{Certificate, Earlier, MeantHold, DisturbancesHold, MeantRuin, DisturbanceRuins}
 use Rattle.game.specs.ValueLaws.{fin-injective}
@@ -41,6 +41,7 @@ module _
         subst₂ (λ (x y : Value). x ≼ y) (values v inside) (values w (meant-inside a wf v w m)) low
     carry-meant-hold v environment inside legal keeps h =
         λ w m. subst₂ (λ (x y : Value). x ≼ y) (values v inside) (values w (meant-inside a wf v w m)) (h w m)
+    carry-meant-hold v nobody inside legal keeps h = tt
 
     carry-disturbances-hold : (v : ℕ) → v < size a → DisturbancesHold a value choice step v → DisturbancesHold a value′ choice′ step′ v
     carry-disturbances-hold v inside h w d =
@@ -49,6 +50,7 @@ module _
     carry-meant-ruin : (v : ℕ) (o : Owner) → v < size a → MeantRuin a value choice step o v → MeantRuin a value′ choice′ step′ o v
     carry-meant-ruin v controller inside all = λ w m. carry-earlier w v (meant-inside a wf v w m) inside (all w m)
     carry-meant-ruin v environment inside (w, m, less) = (w, m, carry-earlier w v (meant-inside a wf v w m) inside less)
+    carry-meant-ruin v nobody inside none = absurd none
 
     carry-disturbance-ruins : (v : ℕ) → v < size a → DisturbanceRuins a value choice step v → DisturbanceRuins a value′ choice′ step′ v
     carry-disturbance-ruins v inside (w, d, less) =

@@ -1,13 +1,13 @@
 -- Conditions 1 to 5 of Checking (document 01, "The jobs"), at a position and everywhere: a certificate of three rows,
--- values, choices and steps. "Disturbances leave O positions only", so where conditions 4 and 5 speak of disturbances at O,
--- the clause asks nothing at L, and stands beside what is asked of the meant moves of either owner.
+-- values, choices and steps. Disturbances leave O and R only, so where conditions 4 and 5 speak of disturbances at O, the clause
+-- asks nothing at L, and stands beside what is asked of the meant moves. At R, which has none, it is all that they ask.
 use Prim.Native.Nat.{ℕ, _<_}
 use mathlib.Core.Path.{_≡_}
 use mathlib.Core.Logic.{_⊎_, _↔_}
 use mathlib.Core.Bool.{false}
 use lib.Dec.{T}
 use Rattle.game.specs.Value.{Value, fin, ever, _≼_, _≺_, _⊕_}
-use Rattle.game.specs.Arena.{Arena, Owner, controller, environment, size, ownerAt, unsafe, Meant, Disturbance}
+use Rattle.game.specs.Arena.{Arena, Owner, controller, environment, nobody, size, ownerAt, unsafe, Meant, Disturbance}
 use Rattle.game.specs.Play.{disturbanceCost, LegalAt}
 
 module _ (a : Arena) (value choice step : ℕ → Value) where
@@ -19,12 +19,13 @@ module _ (a : Arena) (value choice step : ℕ → Value) where
   abbrev pub DashAt : ℕ → Type 0
   DashAt v = (step v ≡ ever) ↔ (value v ≡ ever)
 
-  -- 3. "The choice is a meant target at O, `-` at L." is `LegalAt`.
+  -- 3. "The choice is a meant target at O, `-` at L", and at R, is `LegalAt`.
 
   -- 4. "Holding: at O the choice has at least this value", "At L each meant target has at least this value."
   abbrev pub MeantHold : Owner → ℕ → Type 0
   MeantHold controller v = (w : ℕ) → choice v ≡ fin w → value v ≼ value w
   MeantHold environment v = (w : ℕ) → Meant a v w → value v ≼ value w
+  MeantHold nobody v = Unit {0}
 
   -- "and each disturbance's target at least this value less one ("ever" less one is "ever")": less one stands on the other
   -- side, as the cost more (`LessOne` says that it is the same)
@@ -42,6 +43,7 @@ module _ (a : Arena) (value choice step : ℕ → Value) where
   abbrev pub MeantRuin : Owner → ℕ → Type 0
   MeantRuin controller v = (w : ℕ) → Meant a v w → Earlier w v
   MeantRuin environment v = (w : ℕ) × Meant a v w × Earlier w v
+  MeantRuin nobody v = ⊥
 
   -- "some disturbance's target has a smaller value": smaller is said as the cost more being at most this value (again `LessOne`)
   abbrev pub DisturbanceRuins : ℕ → Type 0

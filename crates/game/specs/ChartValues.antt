@@ -5,12 +5,12 @@ use mathlib.Core.Bool.{Bool, _&&_}
 use lib.Dec.{T, ltb, ltb→lt}
 use Rattle.search.specs.Below.{someBelow}
 use Rattle.game.specs.Value.{Value, eqV}
-use Rattle.game.specs.Arena.{Arena, Position, controller, environment, WellFormed, size}
+use Rattle.game.specs.Arena.{Arena, Position, controller, environment, nobody, WellFormed, size}
 use Rattle.game.specs.Worth.{IsValue}
 use Rattle.game.specs.Table.{someMove, everyMove, meantFrom, disturbanceFrom, isPlaced, hasValue, readyAs, ready, begins, place, tableAfter, tableBefore, table, placedValue, roundValue}
 use Rattle.game.specs.ValueLaws.{eqV-sound}
 use Rattle.game.specs.MoveTests.{and-left, and-right}
-use Rattle.game.specs.WellFormedTest.{fits, isWellFormed, well-formed}
+use Rattle.game.specs.WellFormedTest.{leaves, fits, isWellFormed, well-formed}
 use Rattle.game.specs.RoundValues.{rounds-give-the-values, the-value-is-the-rounds}
 
 -- positions by owner and mark
@@ -20,9 +20,12 @@ O mark = record { owner = controller; mark = mark }
 abbrev pub L : ℕ → Position
 L mark = record { owner = environment; mark = mark }
 
+abbrev pub R : ℕ → Position
+R mark = record { owner = nobody; mark = mark }
+
 -- a test that computes, with all that it stands on
 unfoldable pub chartIs : Arena → ℕ → Value → Bool
-unfolding isWellFormed fits everyMove someMove someBelow meantFrom disturbanceFrom roundValue placedValue table tableBefore tableAfter place isPlaced hasValue begins ready readyAs eqV
+unfolding isWellFormed fits leaves everyMove someMove someBelow meantFrom disturbanceFrom roundValue placedValue table tableBefore tableAfter place isPlaced hasValue begins ready readyAs eqV
 chartIs a v x = isWellFormed a && (ltb v (size a) && eqV (roundValue a v) x)
 
 module _ (a : Arena) (v : ℕ) (x : Value) (h : T (chartIs a v x)) where

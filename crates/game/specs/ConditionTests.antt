@@ -5,7 +5,7 @@ use mathlib.Core.Logic.{_⊎_, inl, inr, _↔_}
 use mathlib.Core.Bool.{Bool, true, false, cond, _&&_, _||_, not, true≢false}
 use lib.Dec.{T, T-not}
 use Rattle.game.specs.Value.{Value, fin, ever, _⊕_, leV, ltV, eqV}
-use Rattle.game.specs.Arena.{Arena, Owner, controller, environment, ownerAt, unsafe}
+use Rattle.game.specs.Arena.{Arena, Owner, controller, environment, nobody, ownerAt, unsafe}
 use Rattle.game.specs.Play.{disturbanceCost, targetOf, LegalAs, LegalAt}
 use Rattle.game.specs.Certificate.{UnsafeZeroAt, DashAt, MeantHold, DisturbancesHold, HoldingAt, Earlier, MeantRuin, DisturbanceRuins, RuinAt}
 use Rattle.game.specs.Fault.{earlier, unsafeZero, dashed, legalAs, meantHold, disturbancesHold, holds, meantRuin, disturbanceRuins, ruined}
@@ -51,6 +51,7 @@ module _ (a : Arena) (value choice step : ℕ → Value) where
       q : ℕ → Bool
       q w = eqV (choice v) (fin w)
   legal-test environment v = eqV-sound (choice v) ever
+  legal-test nobody v = eqV-sound (choice v) ever
 
   -- condition 4, where 3 holds
   meant-hold-test : (o : Owner) (v : ℕ) → LegalAs o a v (choice v) → T (meantHold a value choice step o v) ↔ MeantHold a value choice step o v
@@ -63,6 +64,7 @@ module _ (a : Arena) (value choice step : ℕ → Value) where
     λ h w m. leV-sound (value v) (value w) .0 (every-meant a v (λ u. leV (value v) (value u)) .0 h w m),
     λ h. every-meant a v (λ u. leV (value v) (value u)) .1 (λ w m. leV-sound (value v) (value w) .1 (h w m)),
   )
+  meant-hold-test nobody v l = (λ h. tt, λ h. tt)
 
   disturbances-hold-test : (v : ℕ) → T (disturbancesHold a value choice step v) ↔ DisturbancesHold a value choice step v
   unfolding disturbancesHold
@@ -96,6 +98,7 @@ module _ (a : Arena) (value choice step : ℕ → Value) where
     λ h. let r = some-meant a v (λ w. earlier a value choice step w v) .0 h in (r .0, r .1, earlier-test (r .0) v .0 (r .2)),
     λ r. some-meant a v (λ w. earlier a value choice step w v) .1 (r .0, r .1, earlier-test (r .0) v .1 (r .2)),
   )
+  meant-ruin-test nobody v = (λ h. h, λ h. h)
 
   disturbance-ruins-test : (v : ℕ) → T (disturbanceRuins a value choice step v) ↔ DisturbanceRuins a value choice step v
   unfolding disturbanceRuins

@@ -1,6 +1,6 @@
--- Every finite play of a controller in a well-formed arena is a prefix of an unending one that is consistent
--- with it and has no further disturbance. The unending play is given by the trails that it passes; those up to the finite play
--- are its own prefixes, and from there on some move of the controller or of the environment is added, again and again.
+-- Every finite play of a controller in a well-formed arena, and every trail with stays, is a prefix of an unending one that is consistent
+-- with it and has no further disturbance. The unending play is given by the trails that it passes; those up to the finite one
+-- are its own prefixes, and from there on some move of the controller or of the environment, or a stay, is added, again and again.
 use Prim.Native.Nat.{ℕ, zero, suc, _+_, _≤_, _<_}
 use native.Mathlib.Omega.{arith}
 use native.Mathlib.Nat.{zero-add, add-zero, add-suc, le-trans, le-of-eq}
@@ -8,10 +8,11 @@ use mathlib.Core.Path.{_≡_, refl, sym, ap, subst, _∙_}
 use mathlib.Core.Logic.{_⊎_}
 use mathlib.Core.Bool.{Bool, true, false, cond}
 use lib.Dec.{T}
-use Rattle.game.specs.Arena.{Arena, Owner, controller, environment, size, ownerAt, unsafe, Meant, Disturbance, WellFormed}
-use Rattle.game.specs.Play.{Trail, still, meant, disturbed, last, cost, Controller, Allows, Play, Unsafe}
-use Rattle.game.specs.Journal.{Edge, Unending, prefix, Consistent}
-use Rattle.game.specs.PlayLaws.{starts-inside, stays-inside}
+use Rattle.game.specs.Arena.{Arena, Owner, controller, environment, nobody, size, ownerAt, unsafe, Disturbance, hasMeant, WellFormed}
+use Rattle.game.specs.Play.{Trail, still, meant, disturbed, last, cost, Controller, Unsafe}
+use Rattle.game.specs.Journal.{Onward, Edge, Unending, prefix, Consistent}
+use Rattle.game.specs.PlayLaws.{environment-is-not-controller, nobody-is-not-controller}
+use Rattle.game.specs.Ways.{Way, way-starts-inside, way-stays-inside}
 
 -- the trail after one more move, a disturbance where the bit says so
 abbrev pub moved : Bool → Trail → ℕ → Trail
@@ -40,22 +41,18 @@ unfolding Unsafe
 moved-unsafe a v true t w u = u
 moved-unsafe a v false t w u = u
 
-pub moved-play :
+pub moved-way :
     (a : Arena) (σ : Controller a) (v : ℕ) (b : Bool) (t : Trail) (w : ℕ)
-    → Play a σ v t
+    → Way a σ v t
     → Edge b a (last v t) w
     → (b ≡ false → ownerAt a (last v t) ≡ controller → w ≡ σ .pick v t)
-    → Play a σ v (moved b t w)
-unfolding Play
-moved-play a σ v true t w p edge picked = (p, edge)
-moved-play a σ v false t w p edge picked = (p, edge, allowed (ownerAt a (last v t)) (picked refl))
-  where
-    allowed : (o : Owner) → (o ≡ controller → w ≡ σ .pick v t) → Allows o (σ .pick v t) w
-    allowed controller h = h refl
-    allowed environment h = tt
+    → Way a σ v (moved b t w)
+unfolding Way
+moved-way a σ v true t w p edge picked = (p, edge)
+moved-way a σ v false t w p edge picked = (p, edge, picked refl)
 
 module _ (a : Arena) (σ : Controller a) (v : ℕ) where
-  -- one move of a play of the controller leads from the trail t to the trail t′
+  -- one move of an unending play of the controller leads from the trail t to the trail t′
   record Next (t t′ : Trail) : Type 0 where
     bit : Bool
     target : ℕ
@@ -63,10 +60,8 @@ module _ (a : Arena) (σ : Controller a) (v : ℕ) where
     edge : Edge bit a (last v t) target
     picked : bit ≡ false → ownerAt a (last v t) ≡ controller → target ≡ σ .pick v t
 
-  next-of-meant : (t t′ : Trail) (w : ℕ) → t′ ≡ meant t w → Meant a (last v t) w → Allows (ownerAt a (last v t)) (σ .pick v t) w → Next t t′
-  next-of-meant t t′ w e m allowed =
-      let picked : ownerAt a (last v t) ≡ controller → w ≡ σ .pick v t = λ own. subst (λ (o : Owner). Allows o (σ .pick v t) w) own allowed in
-      record { bit = false; target = w; trail = e; edge = m; picked = λ bit. picked }
+  next-of-meant : (t t′ : Trail) (w : ℕ) → t′ ≡ meant t w → Edge false a (last v t) w → (ownerAt a (last v t) ≡ controller → w ≡ σ .pick v t) → Next t t′
+  next-of-meant t t′ w e edge picked = record { bit = false; target = w; trail = e; edge = edge; picked = λ bit. picked }
 
   next-of-disturbed : (t t′ : Trail) (w : ℕ) → t′ ≡ disturbed t w → Disturbance a (last v t) w → Next t t′
   next-of-disturbed t t′ w e d = record { bit = true; target = w; trail = e; edge = d; picked = λ bit own. absurd (subst T bit tt) }
@@ -141,9 +136,9 @@ module _ (a : Arena) (σ : Controller a) (v : ℕ) where
       shift : (j n : ℕ) → j + suc n ≡ suc j + n
       shift j n = omega arith
 
-  -- a sequence of trails that begins at a play's trail is reached from the start, by the play's own prefixes
-  reached : (t : Trail) → Play a σ v t → (f : ℕ → Trail) → f 0 ≡ t → ((j : ℕ) → Next (f j) (f (suc j))) → From f
-  unfolding Play before
+  -- a sequence of trails that begins at such a trail is reached from the start, by its own prefixes
+  reached : (t : Trail) → Way a σ v t → (f : ℕ → Trail) → f 0 ≡ t → ((j : ℕ) → Next (f j) (f (suc j))) → From f
+  unfolding Way before
   reached still p f e next = record { passing = record { at = f; starts = e; next = next }; length = 0; agrees = λ j. ap f (add-zero j) }
   reached (meant t w) p f e next =
       from-before t f (reached t (p .0) (before t f) refl (before-next t f (next-of-meant t (f 0) w e (p .1) (p .2)) next))
@@ -151,43 +146,44 @@ module _ (a : Arena) (σ : Controller a) (v : ℕ) where
       from-before t f (reached t (p .0) (before t f) refl (before-next t f (next-of-disturbed t (f 0) w e (p .1)) next))
 
   module _ (wf : WellFormed a) where
-    -- some meant move follows every play
-    some-move : (t : Trail) → Play a σ v t → (w : ℕ) × Meant a (last v t) w × Allows (ownerAt a (last v t)) (σ .pick v t) w
+    -- some move that is no disturbance follows every trail
+    some-move : (t : Trail) → Way a σ v t → (w : ℕ) × Edge false a (last v t) w × (ownerAt a (last v t) ≡ controller → w ≡ σ .pick v t)
     some-move t p = go (ownerAt a (last v t)) refl
       where
-        go : (o : Owner) → ownerAt a (last v t) ≡ o → (w : ℕ) × Meant a (last v t) w × Allows o (σ .pick v t) w
-        go controller own = (σ .pick v t, σ .legal v t own, refl)
+        go : (o : Owner) → ownerAt a (last v t) ≡ o → (w : ℕ) × Onward o a (last v t) w × (o ≡ controller → w ≡ σ .pick v t)
+        go controller own = (σ .pick v t, σ .legal v t own, λ _. refl)
         go environment own =
-            let m = wf .meant (last v t) (stays-inside a wf σ v t p) in
-            (m .0, m .1, tt)
+            let m = wf .meant (last v t) (way-stays-inside a σ v wf t p) (subst (λ (o : Owner). T (hasMeant o)) (sym own) tt) in
+            (m .0, m .1, λ c. absurd (environment-is-not-controller c))
+        go nobody own = (last v t, refl, λ c. absurd (nobody-is-not-controller c))
 
-    -- the plays that follow, a meant move longer each
-    onward : (t : Trail) → Play a σ v t → ℕ → (t′ : Trail) × Play a σ v t′
-    unfolding Play
+    -- the trails that follow, such a move longer each
+    onward : (t : Trail) → Way a σ v t → ℕ → (t′ : Trail) × Way a σ v t′
+    unfolding Way
     onward t p zero = (t, p)
     onward t p (suc j) =
         let (t′, p′) = onward t p j in
         let m = some-move t′ p′ in
         (meant t′ (m .0), (p′, m .1, m .2))
 
-    onward-next : (t : Trail) (p : Play a σ v t) (j : ℕ) → Next (onward t p j .0) (onward t p (suc j) .0)
+    onward-next : (t : Trail) (p : Way a σ v t) (j : ℕ) → Next (onward t p j .0) (onward t p (suc j) .0)
     unfolding onward
     onward-next t p j =
         let (t′, p′) = onward t p j in
         let m = some-move t′ p′ in
         next-of-meant t′ (meant t′ (m .0)) (m .0) refl (m .1) (m .2)
 
-    onward-cost : (t : Trail) (p : Play a σ v t) (j : ℕ) → cost a v (onward t p j .0) ≡ cost a v t
+    onward-cost : (t : Trail) (p : Way a σ v t) (j : ℕ) → cost a v (onward t p j .0) ≡ cost a v t
     unfolding onward cost
     onward-cost t p zero = refl
     onward-cost t p (suc j) = onward-cost t p j
 
-    pub play-can-be-extended : (t : Trail) → Play a σ v t → Extension a σ v t
+    pub way-can-be-extended : (t : Trail) → Way a σ v t → Extension a σ v t
     unfolding onward
-    play-can-be-extended t p =
+    way-can-be-extended t p =
         let f : ℕ → Trail = λ j. onward t p j .0 in
         let r = reached t p f refl (onward-next t p) in
-        let inside = starts-inside a σ v t p in
+        let inside = way-starts-inside a σ v t p in
         let n = r .length in
         let same-cost : (j : ℕ) → cost a v (r .passing .at (j + n)) ≡ cost a v t = λ j. ap (cost a v) (r .agrees j) ∙ onward-cost t p j in
         record {

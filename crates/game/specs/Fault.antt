@@ -1,8 +1,8 @@
 -- Conditions 1 to 5 as a computation: the first that fails at a position.
 use Prim.Native.Nat.{ℕ}
-use mathlib.Core.Bool.{Bool, cond, _&&_, _||_, not}
+use mathlib.Core.Bool.{Bool, true, false, cond, _&&_, _||_, not}
 use Rattle.game.specs.Value.{Value, fin, ever, leV, ltV, eqV, _⊕_}
-use Rattle.game.specs.Arena.{Arena, Owner, controller, environment, ownerAt, unsafe}
+use Rattle.game.specs.Arena.{Arena, Owner, controller, environment, nobody, ownerAt, unsafe}
 use Rattle.game.specs.Play.{disturbanceCost, targetOf}
 use Rattle.game.specs.Table.{someMove, everyMove, meantFrom, disturbanceFrom}
 
@@ -22,11 +22,13 @@ module _ (a : Arena) (value choice step : ℕ → Value) where
   unfoldable pub legalAs : Owner → ℕ → Bool
   legalAs controller v = someMove (λ m. meantFrom v m && eqV (choice v) (fin (m .to))) (a .moves)
   legalAs environment v = eqV (choice v) ever
+  legalAs nobody v = eqV (choice v) ever
 
   -- condition 4, where 3 holds
   unfoldable pub meantHold : Owner → ℕ → Bool
   meantHold controller v = leV (value v) (value (targetOf (choice v)))
   meantHold environment v = everyMove (λ m. not (meantFrom v m) || leV (value v) (value (m .to))) (a .moves)
+  meantHold nobody v = true
 
   unfoldable pub disturbancesHold : ℕ → Bool
   disturbancesHold v = everyMove (λ m. not (disturbanceFrom v m) || leV (value v) (value (m .to) ⊕ disturbanceCost a v (m .to))) (a .moves)
@@ -38,6 +40,7 @@ module _ (a : Arena) (value choice step : ℕ → Value) where
   unfoldable pub meantRuin : Owner → ℕ → Bool
   meantRuin controller v = everyMove (λ m. not (meantFrom v m) || earlier (m .to) v) (a .moves)
   meantRuin environment v = someMove (λ m. meantFrom v m && earlier (m .to) v) (a .moves)
+  meantRuin nobody v = false
 
   unfoldable pub disturbanceRuins : ℕ → Bool
   disturbanceRuins v = someMove (λ m. disturbanceFrom v m && leV (value (m .to) ⊕ disturbanceCost a v (m .to)) (value v)) (a .moves)

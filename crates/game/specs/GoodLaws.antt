@@ -8,9 +8,9 @@ use mathlib.Core.List.{List·Memᴰ, Memᴰ·cast}
 use lib.Dec.{T, eqb, eqb→eq}
 use Rattle.game.specs.Value.{Value, _≼_}
 use Rattle.game.specs.ValueLaws.{leV-sound}
-use Rattle.game.specs.Arena.{Arena, Move, Owner, controller, environment, WellFormed, size, ownerAt, Meant}
+use Rattle.game.specs.Arena.{Arena, Move, Owner, controller, environment, nobody, WellFormed, size, ownerAt, Meant}
 use Rattle.game.specs.Play.{Trail, Controller, Legal, Play, last, picked, positional, targetOf, controller-inside}
-use Rattle.game.specs.PlayLaws.{environment-is-not-controller, meant-inside, positional-pick}
+use Rattle.game.specs.PlayLaws.{environment-is-not-controller, nobody-is-not-controller, meant-inside, positional-pick}
 use Rattle.game.specs.Worth.{WorthIs}
 use Rattle.game.specs.Certified.{keeping-gives-worth}
 use Rattle.game.specs.Optimal.{WorthsAre, optimal-never-falls}
@@ -34,6 +34,7 @@ AllGood a choice = (v : ℕ) → ownerAt a v ≡ controller → Good a v (target
 controller-test : (o : Owner) → T (isController o) ↔ (o ≡ controller)
 controller-test controller = (λ h. refl, λ e. tt)
 controller-test environment = (λ h. absurd h, λ e. absurd (environment-is-not-controller e))
+controller-test nobody = (λ h. absurd h, λ e. absurd (nobody-is-not-controller e))
 
 meant-test : (c : ℕ) → T (eqb c 0) ↔ (c ≡ 0)
 meant-test c = (eqb→eq c 0, λ e. subst (λ (x : ℕ). T (eqb x 0)) (sym e) tt)

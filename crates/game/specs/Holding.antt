@@ -8,11 +8,11 @@ use mathlib.Core.Path.{_≡_, refl}
 use mathlib.Core.Logic.{inl, inr}
 use lib.Dec.{T}
 use Rattle.game.specs.Value.{Value, fin, _≼_, _≺_, _⊕_}
-use Rattle.game.specs.Arena.{Arena, Owner, controller, environment, ownerAt, unsafe, Meant, Disturbance, WellFormed}
+use Rattle.game.specs.Arena.{Arena, Owner, controller, environment, nobody, ownerAt, unsafe, Meant, Disturbance, WellFormed}
 use Rattle.game.specs.Play.{Trail, still, meant, disturbed, last, cost, disturbanceCost, Controller, Allows, Play, Unsafe, LegalAs, Legal, positional, targetOf}
 use Rattle.game.specs.Certificate.{CertifiedAt, Certificate, MeantHold}
 use Rattle.game.specs.ValueLaws.{fin≼, ≼refl, ≼trans, ≺-not-≼, ⊕zero, ⊕mono, ⊕≼trans, ⊕fin}
-use Rattle.game.specs.PlayLaws.{environment-is-not-controller, target-is-named, stays-inside, positional-pick}
+use Rattle.game.specs.PlayLaws.{environment-is-not-controller, nobody-is-not-controller, target-is-named, stays-inside, positional-pick}
 use Rattle.game.specs.Bounds.{AtLeast}
 
 -- Wherever a play of the controller from v stands at a position of its own, the pick's value is at least the value there.
@@ -35,6 +35,7 @@ module _ (a : Arena) (value choice step : ℕ → Value) where
       go : (o : Owner) → (o ≡ controller → value v ≼ value p) → Allows o p w → MeantHold a value choice step o v → value v ≼ value w
       go controller keeps e holding = rw e (keeps refl)
       go environment keeps e holding = holding w m
+      go nobody keeps e holding = absurd e
 
   -- the row's choice keeps the values
   pub choice-keeps : (v : ℕ) → CertifiedAt a value choice step v → ownerAt a v ≡ controller → value v ≼ value (targetOf (choice v))
@@ -43,6 +44,7 @@ module _ (a : Arena) (value choice step : ℕ → Value) where
       go : (o : Owner) → LegalAs o a v (choice v) → MeantHold a value choice step o v → o ≡ controller → value v ≼ value (targetOf (choice v))
       go controller (w, e, m) holding own = holding _ (target-is-named (choice v) w e)
       go environment dash holding own = absurd (environment-is-not-controller own)
+      go nobody dash holding own = absurd (nobody-is-not-controller own)
 
   -- the same bound across the row's own choice (at L, any meant move)
   pub chosen-move-holds :

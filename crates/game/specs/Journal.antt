@@ -5,13 +5,20 @@ use mathlib.Core.Path.{_≡_}
 use mathlib.Core.Bool.{Bool, true, false, cond}
 use lib.Dec.{T}
 use Rattle.game.specs.Value.{Value, fin, ever}
-use Rattle.game.specs.Arena.{Arena, controller, size, ownerAt, unsafe, Meant, Disturbance}
+use Rattle.game.specs.Arena.{Arena, Owner, controller, environment, nobody, size, ownerAt, unsafe, Meant, Disturbance}
 use Rattle.game.specs.Play.{Trail, still, meant, disturbed, Controller}
+
+-- E, by who owns the position that an edge leaves. The journal's vertices all have a successor; "R counts as a meant move to itself"
+-- (document 02, order 14): an unending play that isn't disturbed there stays.
+abbrev pub Onward : Owner → Arena → ℕ → ℕ → Type 0
+Onward controller a v w = Meant a v w
+Onward environment a v w = Meant a v w
+Onward nobody a v w = w ≡ v
 
 -- "b_j = 0 implies (v_{j-1}, v_j) ∈ E, and b_j = 1 implies (v_{j-1}, v_j) ∈ D"
 abbrev pub Edge : Bool → Arena → ℕ → ℕ → Type 0
 Edge true a v w = Disturbance a v w
-Edge false a v w = Meant a v w
+Edge false a v w = Onward (ownerAt a v) a v w
 
 -- "A play is an infinite sequence (v_0, b_0)(v_1, b_1)…": `bit j` is b_{j+1}, since "b_0 is always zero"
 pub record Unending (a : Arena) (v : ℕ) : Type 0 where

@@ -31,6 +31,7 @@ pub mod Carry
 pub mod Prepend
 pub mod Optimal
 pub mod RestrictLaws
+pub mod Ways
 pub mod Extend
 pub mod MoveTests
 pub mod PlacementLaws
@@ -45,6 +46,7 @@ pub mod RoundHolding
 pub mod RoundRuin
 pub mod RoundCertificate
 pub mod RoundValues
+pub mod RestLaws
 pub mod GoodLaws
 pub mod Resilience
 pub mod ConditionTests

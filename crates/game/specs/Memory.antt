@@ -1,31 +1,40 @@
 -- controllers exist in every well-formed arena; and "every controller" isn't only the positional ones: in a small
 -- arena there is one whose pick at a position depends on whether a disturbance led there.
 use Prim.Native.Nat.{ℕ, zero, suc, _<_}
-use native.Mathlib.Decide.{decLt}
 use native.Mathlib.Omega.{arith}
 use mathlib.Core.Path.{_≡_, refl, sym, subst}
 use mathlib.Core.List.{List, [], _∷_, List·Memᴰ, List·Memᴰ·head, List·Memᴰ·tail, List·Memᴰ·not-nil, List·Memᴰ·cases-cons}
 use mathlib.Core.Logic.{_⊎_, inl, inr}
 use mathlib.Core.Bool.{Bool, true, false, cond, _&&_}
 use lib.Dec.{T, eqb, lit<}
-use Rattle.game.specs.Arena.{Arena, Move, controller, size, ownerAt, meantMove, disturbanceMove, Meant, mayBeDisturbed, WellFormed}
+use Rattle.game.specs.Arena.{Arena, Move, Owner, controller, environment, nobody, size, ownerAt, meantMove, disturbanceMove, Meant, mayBeDisturbed, hasMeant, WellFormed}
 use Rattle.game.specs.Play.{Trail, still, meant, disturbed, last, Controller, Play, controller-inside}
+use Rattle.game.specs.PlayLaws.{environment-is-not-controller, nobody-is-not-controller}
 
--- some meant target of a position, and any number elsewhere
-someTarget : (a : Arena) → WellFormed a → (v : ℕ) → Dec (v < size a) → ℕ
-someTarget a wf v (yes inside) = wf .meant v inside .0
-someTarget a wf v (no outside) = 0
+isTheControllers : (o : Owner) → Dec (o ≡ controller)
+isTheControllers controller = yes refl
+isTheControllers environment = no environment-is-not-controller
+isTheControllers nobody = no nobody-is-not-controller
 
-some-target-is-meant : (a : Arena) (wf : WellFormed a) (v : ℕ) (d : Dec (v < size a)) → v < size a → Meant a v (someTarget a wf v d)
+-- a position of the controller has a meant target
+meant-of-controller : (a : Arena) → WellFormed a → (v : ℕ) → ownerAt a v ≡ controller → (w : ℕ) × Meant a v w
+meant-of-controller a wf v own = wf .meant v (controller-inside a v own) (subst (λ (o : Owner). T (hasMeant o)) (sym own) tt)
+
+-- such a target, and any number elsewhere
+someTarget : (a : Arena) → WellFormed a → (v : ℕ) → Dec (ownerAt a v ≡ controller) → ℕ
+someTarget a wf v (yes own) = meant-of-controller a wf v own .0
+someTarget a wf v (no other) = 0
+
+some-target-is-meant : (a : Arena) (wf : WellFormed a) (v : ℕ) (d : Dec (ownerAt a v ≡ controller)) → ownerAt a v ≡ controller → Meant a v (someTarget a wf v d)
 unfolding someTarget
-some-target-is-meant a wf v (yes inside) l = wf .meant v inside .1
-some-target-is-meant a wf v (no outside) l = absurd (outside l)
+some-target-is-meant a wf v (yes own) h = meant-of-controller a wf v own .1
+some-target-is-meant a wf v (no other) h = absurd (other h)
 
 pub some-controller : (a : Arena) → WellFormed a → Controller a
 some-controller a wf =
     record {
-      pick = λ v t. someTarget a wf (last v t) (decLt (last v t) (size a));
-      legal = λ v t own. some-target-is-meant a wf (last v t) (decLt (last v t) (size a)) (controller-inside a (last v t) own);
+      pick = λ v t. someTarget a wf (last v t) (isTheControllers (ownerAt a (last v t)));
+      legal = λ v t own. some-target-is-meant a wf (last v t) (isTheControllers (ownerAt a (last v t))) own;
     }
 
 -- two positions of the controller: 0 leads to 1 by a meant move and by a disturbance, 1 leads to both by meant moves
@@ -77,7 +86,8 @@ pair-is-well-formed =
       to-position = of-each (λ m. m .to < 2) (pair .moves) (lit< tt, (lit< tt, (lit< tt, (lit< tt, tt))));
       disturbed =
           λ v w d. of-each (λ m. T (mayBeDisturbed (ownerAt pair (m .from)))) (pair .moves) (tt, (tt, (tt, (tt, tt)))) (disturbanceMove (suc (d .0)) v w) (d .1);
-      meant = λ v inside. (pickAt false v, pick-at-is-meant false v inside);
+      resting = λ v w m. of-each (λ m. T (hasMeant (ownerAt pair (m .from)))) (pair .moves) (tt, (tt, (tt, (tt, tt)))) (meantMove v w) m;
+      meant = λ v inside has. (pickAt false v, pick-at-is-meant false v inside);
     }
 
 remembering : Controller pair

@@ -6,7 +6,7 @@ use mathlib.Core.Logic.{_⊎_, inl, inr, ⊎-elim, ⊎-map, _↔_}
 use mathlib.Core.Bool.{Bool, Bool·beq, true, false, cond, _&&_, _||_, not}
 use mathlib.Core.List.{List, [], _∷_, List·Memᴰ, List·Memᴰ·head, List·Memᴰ·tail, List·Memᴰ·cases-cons, List·Memᴰ·not-nil, Memᴰ·cast}
 use lib.Dec.{T, eqb, eqb→eq, eqb-refl, eqb·suc-zero, not-T, T-not}
-use Rattle.game.specs.Arena.{Arena, Move, Meant, Disturbance, meantMove, disturbanceMove}
+use Rattle.game.specs.Arena.{Arena, Move, Owner, nobody, ownerAt, Meant, Disturbance, meantMove, disturbanceMove, hasMeant, WellFormed}
 use Rattle.game.specs.Table.{someMove, everyMove, meantFrom, disturbanceFrom, ofKind}
 
 -- the parts of a test
@@ -202,3 +202,10 @@ module _ (a : Arena) (v : ℕ) (q : ℕ → Bool) where
 
   pub every-disturbance : T (everyMove (λ m. not (disturbanceFrom v m) || q (m .to)) (a .moves)) ↔ ((w : ℕ) → Disturbance a v w → T (q w))
   every-disturbance = every-target (disturbanceFrom v) (a .moves) (Disturbance a v) disturbance-target disturbance-has-move q
+
+-- an R has no meant move, so a search among its meant targets finds none
+pub none-at-rest : (a : Arena) → WellFormed a → (v : ℕ) → ownerAt a v ≡ nobody → (q : ℕ → Bool) → someMove (λ m. meantFrom v m && q (m .to)) (a .moves) ≡ false
+none-at-rest a wf v own q =
+    is-false (someMove (λ m. meantFrom v m && q (m .to)) (a .moves))
+    (not-T (someMove (λ m. meantFrom v m && q (m .to)) (a .moves))
+    λ h. let r = some-meant a v q .0 h in subst (λ (o : Owner). T (hasMeant o)) own (wf .resting v (r .0) (r .1)))

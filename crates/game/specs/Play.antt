@@ -7,7 +7,7 @@ use mathlib.Core.Logic.{_⊎_}
 use lib.Dec.{T}
 use lib.ListN.{List·getD-eq-default}
 use Rattle.game.specs.Value.{Value, fin, ever}
-use Rattle.game.specs.Arena.{Arena, Position, Owner, controller, environment, size, nowhere, ownerAt, unsafe, Meant, Disturbance}
+use Rattle.game.specs.Arena.{Arena, Position, Owner, controller, environment, nobody, size, nowhere, ownerAt, unsafe, Meant, Disturbance}
 
 -- "A play is a finite row of positions, one at least": the start is given beside it, and a trail is what follows, the
 -- newest move outermost, each with the position that it leads to.
@@ -38,10 +38,12 @@ pub record Controller (a : Arena) : Type 0 where
   pub pick : ℕ → Trail → ℕ
   pub legal : (v : ℕ) (t : Trail) → ownerAt a (last v t) ≡ controller → Meant a (last v t) (pick v t)
 
--- "At L any meant move follows. At O the controller's chosen meant move follows": w may follow where p is picked
+-- "At L any meant move follows. At O the controller's chosen meant move follows": w may follow where p is picked. At R none does: a play
+-- stops there or is disturbed.
 abbrev pub Allows : Owner → ℕ → ℕ → Type 0
 Allows controller p w = w ≡ p
 Allows environment p w = Unit {0}
+Allows nobody p w = ⊥
 
 -- the trail from v is a play under the controller
 unfoldable pub Play : (a : Arena) → Controller a → ℕ → Trail → Type 0
@@ -59,6 +61,7 @@ Unsafe a v (disturbed t w) = Unsafe a v t ⊎ T (unsafe a w)
 abbrev pub LegalAs : Owner → Arena → ℕ → Value → Type 0
 LegalAs controller a v x = (w : ℕ) × (x ≡ fin w) × Meant a v w
 LegalAs environment a v x = x ≡ ever
+LegalAs nobody a v x = x ≡ ever
 
 abbrev pub LegalAt : Arena → (ℕ → Value) → ℕ → Type 0
 LegalAt a choice v = LegalAs (ownerAt a v) a v (choice v)
@@ -71,7 +74,7 @@ unfoldable pub targetOf : Value → ℕ
 targetOf (fin w) = w
 targetOf ever = 0
 
--- nobody steers a number that is no position
+-- a number that is no position isn't the controller's
 pub controller-inside : (a : Arena) (v : ℕ) → ownerAt a v ≡ controller → v < size a
 controller-inside a v own = go (decLt v (size a))
   where

@@ -9,7 +9,7 @@ use mathlib.Core.List.{List·Memᴰ}
 use lib.Dec.{T}
 use Rattle.game.specs.Value.{Value, fin, ever}
 use Rattle.game.specs.ValueLaws.{fin-is-not-ever}
-use Rattle.game.specs.Arena.{Arena, Move, Owner, controller, environment, size, ownerAt, unsafe, meantMove, disturbanceMove, Meant, Disturbance, mayBeDisturbed, WellFormed}
+use Rattle.game.specs.Arena.{Arena, Move, controller, environment, nobody, size, unsafe, meantMove, disturbanceMove, Meant, Disturbance, WellFormed}
 use Rattle.game.specs.Play.{Trail, still, meant, disturbed, last, disturbanceCost, Controller, Play, Unsafe, Legal, positional, targetOf}
 
 -- "a disturbance, which counts one"
@@ -24,13 +24,12 @@ disturbance-costs a v w = rw (disturbance-costs-one a v w) (omega arith)
 pub disturbance-cost-small : (a : Arena) (v w : ℕ) → disturbanceCost a v w ≤ 9
 disturbance-cost-small a v w = rw (disturbance-costs-one a v w) (omega arith)
 
--- the two owners
+-- the owners differ
 pub environment-is-not-controller : environment ≡ controller → ⊥
 environment-is-not-controller e = let z : _≡_ {A = ℕ} 0 1 = cc in omega arith
 
-pub may-be-disturbed : (o : Owner) → T (mayBeDisturbed o) → o ≡ controller
-may-be-disturbed controller h = refl
-may-be-disturbed environment h = absurd h
+pub nobody-is-not-controller : nobody ≡ controller → ⊥
+nobody-is-not-controller e = let z : _≡_ {A = ℕ} 0 1 = cc in omega arith
 
 -- a test is passed or failed
 pub by-test : (b : Bool) → T b ⊎ (b ≡ false)
@@ -43,12 +42,6 @@ unfolding last Unsafe
 stands-unsafe a v still h = h
 stands-unsafe a v (meant t w) h = inr h
 stands-unsafe a v (disturbed t w) h = inr h
-
-pub starts-inside : (a : Arena) (σ : Controller a) (v : ℕ) (t : Trail) → Play a σ v t → v < size a
-unfolding Play
-starts-inside a σ v still p = p
-starts-inside a σ v (meant t w) p = starts-inside a σ v t (p .0)
-starts-inside a σ v (disturbed t w) p = starts-inside a σ v t (p .0)
 
 module _ (a : Arena) (wf : WellFormed a) where
   pub meant-inside : (v w : ℕ) → Meant a v w → w < size a
@@ -63,9 +56,6 @@ module _ (a : Arena) (wf : WellFormed a) where
   -- what a disturbance counts is its move's cost
   pub disturbance-counts : (m : Move) → List·Memᴰ m (a .moves) → (m .cost ≡ 0 → ⊥) → disturbanceCost a (m .from) (m .to) ≡ m .cost
   disturbance-counts m mem costs = rw (disturbance-costs-one a (m .from) (m .to)) (omega (arith, wf .kind m mem))
-
-  pub disturbed-is-controller : (v w : ℕ) → Disturbance a v w → ownerAt a v ≡ controller
-  disturbed-is-controller v w d = may-be-disturbed (ownerAt a v) (wf .disturbed v w d)
 
   pub stays-inside : (σ : Controller a) (v : ℕ) (t : Trail) → Play a σ v t → last v t < size a
   unfolding last Play

@@ -1,25 +1,28 @@
--- The journal's resilience is the value. A controller is k-resilient exactly when no finite play that costs less than k is
--- unsafe, and ω-resilient exactly when (ω+1)-resilient: prefixes of unending plays are plays, and plays extend to unending ones.
+-- The journal's resilience is the value. A controller is k-resilient exactly when no trail of an unending play that costs less than k is
+-- unsafe, and ω-resilient exactly when (ω+1)-resilient: prefixes of unending plays are such trails, and these extend to unending plays. Plays are
+-- such trails, so no controller is more resilient than it is worth; and a steady one, which takes no notice of stays at R, is as resilient.
 -- Strategies of the journal are blind to the bits; a positional controller is one, and that of the rounds' choices attains the
 -- value. So the supremum is a maximum, in every well-formed arena.
-use Prim.Native.Nat.{ℕ, zero, suc, _<_, suc-le-suc}
+use Prim.Native.Nat.{ℕ, zero, suc, _≤_, _<_, suc-le-suc}
 use native.Mathlib.Omega.{arith}
-use native.Mathlib.Decide.{decLt}
-use native.Mathlib.Nat.{lt-of-le-of-lt}
+use native.Mathlib.Decide.{decLe, decLt}
+use native.Mathlib.Nat.{lt-of-le-of-lt, not-le-of-lt}
 use mathlib.Core.Path.{_≡_, refl, sym, ap, subst}
-use mathlib.Core.Logic.{_⊎_, inl, inr, _↔_, Iff·trans}
+use mathlib.Core.Logic.{_⊎_, inl, inr, _↔_}
 use mathlib.Core.Bool.{Bool, true, false, cond}
 use lib.Dec.{T}
 use Rattle.game.specs.Value.{Value, fin, ever, _≼_}
 use Rattle.game.specs.Arena.{Arena, size, unsafe, WellFormed}
-use Rattle.game.specs.Play.{Trail, still, meant, disturbed, last, cost, Controller, Play, Unsafe, Legal, positional}
-use Rattle.game.specs.Worth.{AlwaysSafe, SafeBelow, AtMost, IsValue}
+use Rattle.game.specs.Play.{Trail, still, meant, disturbed, last, cost, Controller, Unsafe, Legal, positional}
+use Rattle.game.specs.Worth.{AtMost, IsValue}
 use Rattle.game.specs.Table.{roundValue}
 use Rattle.game.specs.Best.{bestAt}
 use Rattle.game.specs.Journal.{Unending, prefix, Consistent, Safe, Ordinal, finite, ω, ω+1, disturbances, Resilient, forget, Strategy, _⊑_, UpperBound, ResilienceIs, ordinalOf}
+use Rattle.game.specs.ValueLaws.{fin≼, ≼fin, ever≼, fin-is-not-ever}
 use Rattle.game.specs.PlayLaws.{disturbance-costs-one, stands-unsafe}
-use Rattle.game.specs.Bounds.{AtLeast, safe-below-is-at-least, always-safe-is-at-least, bounds-in-order, worth-is-both-bounds, value-is-bounds}
-use Rattle.game.specs.Extend.{moved, moved-last, moved-unsafe, moved-play, Extension, play-can-be-extended}
+use Rattle.game.specs.Bounds.{AtLeast, bounds-in-order, worth-is-both-bounds, value-is-bounds}
+use Rattle.game.specs.Ways.{Way, Steady, play-is-way, awake, awake-cost, awake-unsafe, awake-is-play, positional-is-steady}
+use Rattle.game.specs.Extend.{moved, moved-last, moved-unsafe, moved-way, Extension, way-can-be-extended}
 use Rattle.game.specs.BestLaws.{best-is-legal}
 use Rattle.game.specs.RoundValues.{rounds-give-the-values, the-value-is-the-rounds, round-choices-are-worth-the-values}
 
@@ -82,14 +85,14 @@ module _ (a : Arena) (v : ℕ) (ρ : Unending a v) where
   prefix-last zero = sym (ρ .starts)
   prefix-last (suc j) = moved-last v (ρ .bit j) (prefix ρ j) (ρ .position (suc j))
 
-  -- the prefixes of a consistent unending play are plays
-  pub prefix-is-play : (σ : Controller a) → Consistent σ ρ → (j : ℕ) → Play a σ v (prefix ρ j)
-  unfolding prefix Play
-  prefix-is-play σ consistent zero = ρ .inside
-  prefix-is-play σ consistent (suc j) =
-      moved-play
+  -- the prefixes of a consistent unending play are trails of the controller
+  pub prefix-is-way : (σ : Controller a) → Consistent σ ρ → (j : ℕ) → Way a σ v (prefix ρ j)
+  unfolding prefix Way
+  prefix-is-way σ consistent zero = ρ .inside
+  prefix-is-way σ consistent (suc j) =
+      moved-way
       a σ v (ρ .bit j) (prefix ρ j) (ρ .position (suc j))
-      (prefix-is-play σ consistent j)
+      (prefix-is-way σ consistent j)
       (rw (prefix-last j) (ρ .edge j))
       (λ bit own. consistent j (rw (prefix-last j) at own) bit)
 
@@ -109,49 +112,69 @@ module _ (a : Arena) (v : ℕ) (ρ : Unending a v) where
   safe-prefixes : ((j : ℕ) → Unsafe a v (prefix ρ j) → ⊥) → Safe ρ
   safe-prefixes safe j u = safe j (stands-unsafe a v (prefix ρ j) (rw (prefix-last j) u))
 
--- a play whose extension is safe is safe
+-- a trail whose extension is safe is safe
 safe-extension : (a : Arena) (σ : Controller a) (v : ℕ) (t : Trail) (e : Extension a σ v t) → Safe (e .play) → Unsafe a v t → ⊥
 safe-extension a σ v t e safe u =
     let bad = unsafe-prefix a v (e .play) (e .length) (rw (e .extends) u) in
     safe (bad .0) (bad .1)
 
+-- every unsafe trail of the controller from v costs x or more
+abbrev WaysAtLeast : (a : Arena) → Controller a → ℕ → Value → Type 0
+WaysAtLeast a σ v x = (t : Trail) → Way a σ v t → Unsafe a v t → x ≼ fin (cost a v t)
+
 module _ (a : Arena) (wf : WellFormed a) (σ : Controller a) (v : ℕ) where
-  -- k-resilient: no finite play that costs less than k is unsafe
-  pub finite-resilience : (k : ℕ) → Resilient a σ v (finite k) ↔ SafeBelow a σ v k
-  finite-resilience k = (
-    λ resilient t p less u.
-        let e = play-can-be-extended a σ v wf t p in
-        safe-extension a σ v t e (resilient (e .play) (e .consistent) (λ j. rw (bits-are-the-cost a v (e .play) j) (lt-of-le-of-lt (e .no-more j) less))) u,
-    λ safe ρ consistent fewer. safe-prefixes a v ρ (λ j u. safe (prefix ρ j) (prefix-is-play a v ρ σ consistent j) (rw (bits-are-the-cost a v ρ j) at (fewer j)) u),
+  -- an unending play with an unsafe prefix is not safe, and each trail is a prefix of one that costs no more
+  costs-at-least : (k : ℕ) → Resilient a σ v (finite k) → WaysAtLeast a σ v (fin k)
+  costs-at-least k resilient t p u = fin≼ _ _ (go (decLe k (cost a v t)))
+    where
+      go : Dec (k ≤ cost a v t) → k ≤ cost a v t
+      go (yes h) = h
+      go (no g) =
+          let e = way-can-be-extended a σ v wf t p in
+          let few : (j : ℕ) → disturbances (e .play) j < k = λ j. rw (bits-are-the-cost a v (e .play) j) (lt-of-le-of-lt (e .no-more j) (omega arith)) in
+          absurd (safe-extension a σ v t e (resilient (e .play) (e .consistent) few) u)
+
+  -- ω-resilient already: no trail is unsafe
+  never-unsafe : Resilient a σ v ω → WaysAtLeast a σ v ever
+  never-unsafe resilient t p u =
+      let e = way-can-be-extended a σ v wf t p in
+      let few : (j : ℕ) → disturbances (e .play) j < suc (cost a v t) = λ j. rw (bits-are-the-cost a v (e .play) j) (suc-le-suc (e .no-more j)) in
+      absurd (safe-extension a σ v t e (resilient (e .play) (e .consistent) (suc (cost a v t), few)) u)
+
+  resilient-on-ways : (x : Value) → Resilient a σ v (ordinalOf x) ↔ WaysAtLeast a σ v x
+  unfolding ordinalOf
+  resilient-on-ways (fin k) = (
+    costs-at-least k,
+    λ low ρ consistent fewer. safe-prefixes a v ρ λ j u.
+        not-le-of-lt (rw (bits-are-the-cost a v ρ j) at (fewer j)) (≼fin _ _ (low (prefix ρ j) (prefix-is-way a v ρ σ consistent j) u)),
   )
-
-  -- ω-resilient already: no finite play is unsafe
-  ω-resilience-is-safety : Resilient a σ v ω → AlwaysSafe a σ v
-  ω-resilience-is-safety resilient t p u =
-      let e = play-can-be-extended a σ v wf t p in
-      safe-extension a σ v t e (resilient (e .play) (e .consistent) (suc (cost a v t), λ j. rw (bits-are-the-cost a v (e .play) j) (suc-le-suc (e .no-more j)))) u
-
-  pub ω+1-resilience : Resilient a σ v ω+1 ↔ AlwaysSafe a σ v
-  ω+1-resilience = (
-    λ resilient. ω-resilience-is-safety (λ ρ consistent fewer. resilient ρ consistent tt),
-    λ safe ρ consistent fewer. safe-prefixes a v ρ (λ j u. safe (prefix ρ j) (prefix-is-play a v ρ σ consistent j) u),
+  resilient-on-ways ever = (
+    λ resilient. never-unsafe (λ ρ consistent fewer. resilient ρ consistent tt),
+    λ low ρ consistent fewer. safe-prefixes a v ρ λ j u. fin-is-not-ever _ (ever≼ _ (low (prefix ρ j) (prefix-is-way a v ρ σ consistent j) u)),
   )
 
   pub ω-resilience : Resilient a σ v ω ↔ Resilient a σ v ω+1
+  unfolding ordinalOf
   ω-resilience = (
-    λ resilient. ω+1-resilience .1 (ω-resilience-is-safety resilient),
+    λ resilient. resilient-on-ways ever .1 (never-unsafe resilient),
     λ resilient ρ consistent fewer. resilient ρ consistent tt,
   )
 
-  -- both at once, for a value: resilient is worth at least
-  pub resilient-is-at-least : (x : Value) → Resilient a σ v (ordinalOf x) ↔ AtLeast a σ v x
-  unfolding ordinalOf
-  resilient-is-at-least (fin k) = Iff·trans (finite-resilience k) (safe-below-is-at-least a σ v k)
-  resilient-is-at-least ever = Iff·trans ω+1-resilience (always-safe-is-at-least a σ v)
+  -- resilient is worth at least
+  pub resilient-gives-at-least : (x : Value) → Resilient a σ v (ordinalOf x) → AtLeast a σ v x
+  resilient-gives-at-least x resilient t p u = resilient-on-ways x .0 resilient t (play-is-way a σ v t p) u
+
+  -- and of a steady controller the other way: without its stays a trail is a play
+  pub resilient-is-at-least : Steady a σ v → (x : Value) → Resilient a σ v (ordinalOf x) ↔ AtLeast a σ v x
+  resilient-is-at-least steady x = (
+    resilient-gives-at-least x,
+    λ low. resilient-on-ways x .1 λ t p u.
+        subst (λ (k : ℕ). x ≼ fin k) (awake-cost a σ v t p) (low (awake a v t) (awake-is-play a σ v steady t p) (awake-unsafe a σ v t p u)),
+  )
 
   -- no controller is more resilient than it is worth at most
   below : (y x : Value) → Resilient a σ v (ordinalOf y) → AtMost a σ v x → y ≼ x
-  below y x resilient most = bounds-in-order a σ v y x (resilient-is-at-least y .0 resilient) most
+  below y x resilient most = bounds-in-order a σ v y x (resilient-gives-at-least y resilient) most
 
   resilience-bounded : (x : Value) (β : Ordinal) → AtMost a σ v x → Resilient a σ v β → β ⊑ ordinalOf x
   unfolding ordinalOf
@@ -189,7 +212,7 @@ module _ (a : Arena) (wf : WellFormed a) (v : ℕ) (inside : v < size a) where
       let at-most = value-is-bounds a v (roundValue a v) .0 (rounds-give-the-values a wf v inside) .1 in
       record {
         strategy = σ;
-        attained = resilient-is-at-least a wf (σ .acts) v (roundValue a v) .1 (worth-is-both-bounds a (σ .acts) v (roundValue a v) .0 worth .0);
+        attained = resilient-is-at-least a wf (σ .acts) v (positional-is-steady a (bestAt a (roundValue a)) (best-is-legal a (roundValue a) wf) v) (roundValue a v) .1 (worth-is-both-bounds a (σ .acts) v (roundValue a v) .0 worth .0);
         bound = λ τ β resilient. resilience-bounded a wf (τ .acts) v (roundValue a v) β (at-most (τ .acts)) resilient;
       }
 

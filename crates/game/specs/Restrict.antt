@@ -4,12 +4,13 @@ use Prim.Native.Nat.{ℕ}
 use mathlib.Core.Bool.{Bool, true, false, _&&_, _||_, not}
 use lib.Dec.{eqb}
 use Rattle.game.specs.Value.{Value, fin, eqV}
-use Rattle.game.specs.Arena.{Arena, Move, Owner, controller, environment, ownerAt}
+use Rattle.game.specs.Arena.{Arena, Move, Owner, controller, environment, nobody, ownerAt}
 use Rattle.game.specs.Keep.{keep}
 
 abbrev pub isController : Owner → Bool
 isController controller = true
 isController environment = false
+isController nobody = false
 
 -- the move stays
 unfoldable pub stays : Arena → (ℕ → Value) → Move → Bool

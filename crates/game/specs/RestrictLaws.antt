@@ -7,7 +7,7 @@ use mathlib.Core.Bool.{_||_, not}
 use mathlib.Core.List.{List·Memᴰ}
 use lib.Dec.{T, eqb·suc-zero}
 use Rattle.game.specs.Value.{Value, fin, ever, eqV}
-use Rattle.game.specs.Arena.{Arena, Move, Owner, controller, environment, ownerAt, meantMove, disturbanceMove, Meant, Disturbance, WellFormed}
+use Rattle.game.specs.Arena.{Arena, Move, Owner, controller, environment, nobody, ownerAt, meantMove, disturbanceMove, Meant, Disturbance, WellFormed}
 use Rattle.game.specs.Play.{Trail, still, meant, disturbed, last, cost, disturbanceCost, Controller, Allows, Play, Unsafe, LegalAs, Legal, positional, targetOf}
 use Rattle.game.specs.Worth.{UnsafePlay, WorthIs, AtMost, IsValue}
 use Rattle.game.specs.Keep.{kept, passed}
@@ -22,10 +22,12 @@ module _ (a : Arena) (choice : ℕ → Value) where
   abbrev pub StaysAs : Owner → ℕ → ℕ → Type 0
   StaysAs controller v w = choice v ≡ fin w
   StaysAs environment v w = Unit {0}
+  StaysAs nobody v w = Unit {0}
 
   stays-as : (o : Owner) (v w : ℕ) → T (not (isController o) || eqV (choice v) (fin w)) ↔ StaysAs o v w
   stays-as controller v w = eqV-sound (choice v) (fin w)
   stays-as environment v w = (λ h. tt, λ h. tt)
+  stays-as nobody v w = (λ h. tt, λ h. tt)
 
   pub restricted-meant : (v w : ℕ) → Meant (restricted a choice) v w ↔ (Meant a v w × StaysAs (ownerAt a v) v w)
   unfolding restricted stays
@@ -62,15 +64,23 @@ module _ (a : Arena) (choice : ℕ → Value) where
   restricted-unsafe v (meant t w) = (⊎-map (restricted-unsafe v t .0) (λ u. u), ⊎-map (restricted-unsafe v t .1) (λ u. u))
   restricted-unsafe v (disturbed t w) = (⊎-map (restricted-unsafe v t .0) (λ u. u), ⊎-map (restricted-unsafe v t .1) (λ u. u))
 
-  -- where the choice of the controller is q, a move stays exactly if it is allowed where q is picked
-  stays-is-allowed : (o : Owner) (v q w : ℕ) → (o ≡ controller → choice v ≡ fin q) → StaysAs o v w ↔ Allows o q w
-  stays-is-allowed controller v q w chosen = (λ e. fin-injective w q (sym e ∙ chosen refl), λ e. chosen refl ∙ ap fin (sym e))
-  stays-is-allowed environment v q w chosen = (λ h. h, λ h. h)
+  -- where the choice of the controller is q, a move that is allowed where q is picked stays
+  allowed-stays : (o : Owner) (v q w : ℕ) → (o ≡ controller → choice v ≡ fin q) → Allows o q w → StaysAs o v w
+  allowed-stays controller v q w chosen e = chosen refl ∙ ap fin (sym e)
+  allowed-stays environment v q w chosen h = tt
+  allowed-stays nobody v q w chosen h = tt
+
+  -- and is allowed where the choice has another name
+  allowed-again : (o : Owner) (v q p w : ℕ) → (o ≡ controller → choice v ≡ fin q) → (o ≡ controller → choice v ≡ fin p) → Allows o q w → Allows o p w
+  allowed-again controller v q p w chosen named e = e ∙ fin-injective q p (sym (chosen refl) ∙ named refl)
+  allowed-again environment v q p w chosen named h = tt
+  allowed-again nobody v q p w chosen named h = h
 
   -- some meant move stays
   some-stays : (o : Owner) (v : ℕ) → LegalAs o a v (choice v) → (w : ℕ) × Meant a v w → (w : ℕ) × (Meant a v w × StaysAs o v w)
   some-stays controller v (w, e, m) some = (w, (m, e))
   some-stays environment v dash (w, m) = (w, (m, tt))
+  some-stays nobody v dash (w, m) = (w, (m, tt))
 
   module _ (wf : WellFormed a) (legal : Legal a choice) where
     pub restricted-is-well-formed : WellFormed (restricted a choice)
@@ -81,9 +91,10 @@ module _ (a : Arena) (choice : ℕ → Value) where
           from-position = λ m i. wf .from-position m (restricted-moves m i);
           to-position = λ m i. wf .to-position m (restricted-moves m i);
           disturbed = λ v w d. wf .disturbed v w (restricted-disturbance v w .0 d);
+          resting = λ v w m. wf .resting v w (restricted-meant v w .0 m .0);
           meant =
-              λ v inside.
-              let m = some-stays (ownerAt a v) v (legal v inside) (wf .meant v inside) in
+              λ v inside has.
+              let m = some-stays (ownerAt a v) v (legal v inside) (wf .meant v inside has) in
               (m .0, restricted-meant v (m .0) .1 (m .1));
         }
 
@@ -99,11 +110,16 @@ module _ (a : Arena) (choice : ℕ → Value) where
       restricted-play v still = (λ p. p, λ p. p)
       restricted-play v (meant t w) =
           let u = last v t in
-          let picked = stays-is-allowed (ownerAt a u) u (τ .pick v t) w (pick-is-choice v t) in
-          let named : ownerAt a u ≡ controller → choice u ≡ fin (targetOf (choice u)) = λ own. target-is-named (choice u) _ (pick-is-choice v t own) in
-          let chosen = stays-is-allowed (ownerAt a u) u (targetOf (choice u)) w named in (
-            λ p. (restricted-play v t .0 (p .0), restricted-meant u w .0 (p .1) .0, chosen .0 (picked .1 (p .2))),
-            λ p. (restricted-play v t .1 (p .0), restricted-meant u w .1 (p .1, chosen .1 (p .2)), picked .0 (chosen .1 (p .2))),
+          let q = τ .pick v t in
+          let c = targetOf (choice u) in
+          let picked : ownerAt a u ≡ controller → choice u ≡ fin q = pick-is-choice v t in
+          let named : ownerAt a u ≡ controller → choice u ≡ fin c = λ own. target-is-named (choice u) _ (picked own) in (
+            λ p. (restricted-play v t .0 (p .0), restricted-meant u w .0 (p .1) .0, allowed-again (ownerAt a u) u q c w picked named (p .2)),
+            λ p. (
+              restricted-play v t .1 (p .0),
+              restricted-meant u w .1 (p .1, allowed-stays (ownerAt a u) u c w named (p .2)),
+              allowed-again (ownerAt a u) u c q w named picked (p .2),
+            ),
           )
       restricted-play v (disturbed t w) = (
         λ p. (restricted-play v t .0 (p .0), restricted-disturbance (last v t) w .0 (p .1)),

@@ -4,8 +4,9 @@ use Prim.Native.Nat.{ℕ, zero, suc, _<_}
 use native.Mathlib.Omega.{arith}
 use mathlib.Core.Path.{_≡_, refl, sym, subst}
 use mathlib.Core.Logic.{_⊎_, inl, inr}
+use lib.Dec.{T}
 use Rattle.game.specs.Value.{fin}
-use Rattle.game.specs.Arena.{Arena, Owner, controller, environment, WellFormed, size, ownerAt}
+use Rattle.game.specs.Arena.{Arena, Owner, controller, environment, nobody, WellFormed, size, ownerAt, Meant, hasMeant}
 use Rattle.game.specs.Rounds.{JoinsAs}
 use Rattle.game.specs.Table.{placed, Table, placementAt, tableAfter, tableBefore, table, roundValue, roundStep}
 use Rattle.game.specs.FirstLine.{highest}
@@ -17,15 +18,17 @@ use Rattle.game.specs.TableIsRounds.{PlacedIn, ready-joins}
 use Rattle.game.specs.FirstLineLaws.{highest-occurs}
 
 module _ (a : Arena) (wf : WellFormed a) where
-  -- no position joins before one is placed, since "Each position has a meant move"
+  -- no position joins before one is placed, since each O and L has a meant move and R never joins
   pub settled-before : (k : ℕ) → Settled a (tableBefore a k)
-  settled-before zero v t = alone (ownerAt a v) (ready-joins a (tableBefore a zero) v .0 (t .passes))
+  settled-before zero v t = alone (ownerAt a v) (wf .meant v inside) (ready-joins a (tableBefore a zero) v .0 (t .passes))
     where
-      alone : (o : Owner) → JoinsAs o a (PlacedIn (tableBefore a zero)) v → ⊥
-      alone controller all =
-          let m = wf .meant v (subst (λ (n : ℕ). v < n) (before-length a zero) (t .inside)) in
-          is-not-placed (before-all a (m .0)) (all (m .0) (m .1))
-      alone environment some = is-not-placed (before-all a (some .0)) (some .2)
+      inside : v < size a
+      inside = subst (λ (n : ℕ). v < n) (before-length a zero) (t .inside)
+
+      alone : (o : Owner) → (T (hasMeant o) → (w : ℕ) × Meant a v w) → JoinsAs o a (PlacedIn (tableBefore a zero)) v → ⊥
+      alone controller some all = let m = some tt in is-not-placed (before-all a (m .0)) (all (m .0) (m .1))
+      alone environment some joins = is-not-placed (before-all a (joins .0)) (joins .2)
+      alone nobody some none = none
   settled-before (suc k) v t = before-settled a k v t
 
   -- a round (k, s) that takes a position has s below n

@@ -7,7 +7,7 @@ use mathlib.Core.Logic.{_⊎_, inl, inr, _↔_}
 use lib.ListN.{length}
 use lib.Dec.{T}
 use Rattle.game.specs.Value.{Value, fin, ever, _≼_, _≺_, _⊕_}
-use Rattle.game.specs.Arena.{Arena, Owner, controller, environment, WellFormed, size, ownerAt, Meant, Disturbance}
+use Rattle.game.specs.Arena.{Arena, Owner, controller, environment, nobody, WellFormed, size, ownerAt, Meant, Disturbance}
 use Rattle.game.specs.Play.{disturbanceCost}
 use Rattle.game.specs.Rounds.{Joins, JoinsAs}
 use Rattle.game.specs.Choice.{IsChoiceAs}
@@ -135,3 +135,4 @@ module _ (a : Arena) (wf : WellFormed a) where
       go : (w : ℕ) → Meant a v w → (roundValue a v ≼ roundValue a w) ⊎ (roundValue a w ≺ roundValue a v) → roundValue a v ≼ roundValue a w
       go w m (inl h) = h
       go w m (inr h) = absurd (none (w, m, h))
+  holds-as nobody v none c = tt

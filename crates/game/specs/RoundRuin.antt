@@ -6,7 +6,7 @@ use mathlib.Core.Logic.{_⊎_, inl, inr}
 use mathlib.Core.Bool.{false}
 use lib.Dec.{T}
 use Rattle.game.specs.Value.{fin, _≼_, _≺_, _⊕_}
-use Rattle.game.specs.Arena.{Arena, Owner, controller, environment, WellFormed, ownerAt, unsafe}
+use Rattle.game.specs.Arena.{Arena, Owner, controller, environment, nobody, WellFormed, ownerAt, unsafe}
 use Rattle.game.specs.Play.{disturbanceCost}
 use Rattle.game.specs.Rounds.{JoinsAs}
 use Rattle.game.specs.Certificate.{Earlier, MeantRuin, DisturbanceRuins}
@@ -48,6 +48,7 @@ module _ (a : Arena) (wf : WellFormed a) where
   ruined-by-joining : (o : Owner) (v : ℕ) → JoinsAs o a (λ w. Before w v) v → Ruined o v
   ruined-by-joining controller v all = inr all
   ruined-by-joining environment v some = inr some
+  ruined-by-joining nobody v none = inr none
 
   disturbance-is-smaller : (v w j : ℕ) → roundValue a w ≡ fin j → roundValue a v ≡ fin (suc j) → roundValue a w ⊕ disturbanceCost a v w ≼ roundValue a v
   unfolding _⊕_

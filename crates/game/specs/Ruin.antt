@@ -10,7 +10,7 @@ use mathlib.Core.Logic.{_⊎_, inl, inr, ⊎-elim}
 use mathlib.Core.Bool.{false}
 use lib.Dec.{T}
 use Rattle.game.specs.Value.{Value, fin, ever, _≼_, _≺_, _⊕_}
-use Rattle.game.specs.Arena.{Arena, Owner, controller, environment, size, ownerAt, unsafe, Meant, Disturbance, WellFormed}
+use Rattle.game.specs.Arena.{Arena, Owner, controller, environment, nobody, size, ownerAt, unsafe, Meant, Disturbance, WellFormed}
 use Rattle.game.specs.Play.{Trail, still, meant, disturbed, last, cost, disturbanceCost, Controller, Allows, Play}
 use Rattle.game.specs.Worth.{AtMost}
 use Rattle.game.specs.Certificate.{CertifiedAt, Certificate, Earlier, MeantRuin}
@@ -111,6 +111,7 @@ module _
             let m = σ .legal v t own in
             by-earlier w m (subst (λ (o : Owner). Allows o w w) (sym own) refl) (all w m)
         by-owner-of environment own (w, m, less) = by-earlier w m (subst (λ (o : Owner). Allows o (σ .pick v t) w) (sym own) tt) less
+        by-owner-of nobody own none = absurd none
 
         one-move : T (unsafe a (last v t)) ⊎ (unsafe a (last v t) ≡ false) → Ruin a value σ v
         one-move (inl bad) = record { trail = t; falling = f; stands = bad }

@@ -6,7 +6,7 @@ use mathlib.Core.List.{List, [], _∷_}
 use lib.ListN.{getD, replicate}
 use lib.Dec.{eqb}
 use Rattle.game.specs.Value.{Value, fin, ever}
-use Rattle.game.specs.Arena.{Arena, Move, Owner, controller, environment, size, ownerAt, unsafe}
+use Rattle.game.specs.Arena.{Arena, Move, Owner, controller, environment, nobody, size, ownerAt, unsafe}
 
 -- not placed, or placed in round (k, s)
 pub data Placement : Type 0 where
@@ -47,10 +47,11 @@ disturbanceFrom v m = not (eqb (m .cost) 0) && eqb (m .from) v
 abbrev pub ofKind : (meant : Bool) → ℕ → Bool
 ofKind meant cost = Bool·beq (eqb cost 0) meant
 
--- "L positions with some meant target placed", "O positions with all meant targets placed"
+-- "L positions with some meant target placed", "O positions with all meant targets placed", no R
 unfoldable pub readyAs : Owner → Arena → Table → ℕ → Bool
 readyAs controller a table v = not (someMove (λ m. meantFrom v m && not (isPlaced (placementAt table (m .to)))) (a .moves))
 readyAs environment a table v = someMove (λ m. meantFrom v m && isPlaced (placementAt table (m .to))) (a .moves)
+readyAs nobody a table v = false
 
 unfoldable pub ready : Arena → Table → ℕ → Bool
 ready a table v = readyAs (ownerAt a v) a table v

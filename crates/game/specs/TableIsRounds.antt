@@ -7,12 +7,12 @@ use mathlib.Core.Bool.{Bool, not, _&&_}
 use lib.ListN.{length}
 use lib.Dec.{T, eqb→eq, eqb-refl, not-T, T-not}
 use Rattle.game.specs.Value.{fin, ever}
-use Rattle.game.specs.Arena.{Arena, Owner, controller, environment, WellFormed, size, ownerAt, Meant, Disturbance}
+use Rattle.game.specs.Arena.{Arena, Owner, controller, environment, nobody, WellFormed, size, ownerAt, Meant, Disturbance, mayBeDisturbed}
 use Rattle.game.specs.Rounds.{Positions, JoinsAs, Joins, PlacedBy, JoinsIn, level, Round, NeverPlaced}
 use Rattle.game.specs.Table.{Placement, unplaced, placed, Table, placementAt, isPlaced, hasValue, someMove, meantFrom, place, readyAs, ready, begins, tableAfter, tableBefore, table, roundValue, roundStep}
 use Rattle.game.specs.MoveTests.{passes-or-fails, some-meant, some-disturbance}
 use Rattle.game.specs.ValueLaws.{fin-injective}
-use Rattle.game.specs.PlayLaws.{disturbance-leaves, disturbed-is-controller}
+use Rattle.game.specs.PlayLaws.{disturbance-leaves}
 use Rattle.game.specs.PlacementLaws.{is-placed, is-not-placed, placed-or-not, value-of-placed, step-of-placed, value-of-unplaced, step-of-unplaced, placed-of-value, unplaced-of-value}
 use Rattle.game.specs.TableLaws.{Takes, extends-placed, place-extends, place-takes, place-leaves}
 use Rattle.game.specs.RoundTables.{RoundTakes, after-length, before-length, before-all, before-from, taken-is-placed}
@@ -43,6 +43,7 @@ ready-joins-as controller a t v = (all, of-all)
     of-all : ((w : ℕ) → Meant a v w → PlacedIn t w) → T (readyAs controller a t v)
     of-all p = not-T blocked λ h. let r = some-meant a v free .0 h in T-not (isPlaced (placementAt t (r .0))) (r .2) (p (r .0) (r .1))
 ready-joins-as environment a t v = some-meant a v (λ w. isPlaced (placementAt t w))
+ready-joins-as nobody a t v = (λ h. h, λ h. h)
 
 pub ready-joins : (a : Arena) (t : Table) (v : ℕ) → T (ready a t v) ↔ JoinsAs (ownerAt a v) a (PlacedIn t) v
 unfolding ready
@@ -51,6 +52,7 @@ ready-joins a t v = ready-joins-as (ownerAt a v) a t v
 pub joins-map-as : (o : Owner) (a : Arena) (P Q : Positions) → ((w : ℕ) → P w → Q w) → (v : ℕ) → JoinsAs o a P v → JoinsAs o a Q v
 joins-map-as controller a P Q f v all = λ w m. f w (all w m)
 joins-map-as environment a P Q f v some = (some .0, some .1, f (some .0) (some .2))
+joins-map-as nobody a P Q f v none = none
 
 pub joins-map : (a : Arena) (P Q : Positions) → ((w : ℕ) → P w → Q w) → (v : ℕ) → Joins a P v → Joins a Q v
 joins-map a P Q f v j = (j .0, joins-map-as (ownerAt a v) a P Q f v (j .1))
@@ -155,17 +157,17 @@ module _ (a : Arena) (wf : WellFormed a) where
       into : ℕ → Bool
       into w = hasValue k (placementAt t w)
 
-      begin : (v : ℕ) → (ownerAt a v ≡ controller) × ((w : ℕ) × Disturbance a v w × ((s : ℕ) × JoinsIn a (level a k) s w)) → (v < length t) × T (begins a (suc k) t v)
-      begin v (own, d) =
+      begin : (v : ℕ) → T (mayBeDisturbed (ownerAt a v)) × ((w : ℕ) × Disturbance a v w × ((s : ℕ) × JoinsIn a (level a k) s w)) → (v < length t) × T (begins a (suc k) t v)
+      begin v (may, d) =
           let r = d .2 in
           let h = value-taken a k (d .0) .1 (r .0, joins-in a k is (r .0) (d .0) .0 (r .1)) in
           (rw (before-length a (suc k)) (disturbance-leaves a wf v (d .0) (d .1)), some-disturbance a v into .1 (d .0, d .1, h))
 
-      begun : (v : ℕ) → (v < length t) × T (begins a (suc k) t v) → (ownerAt a v ≡ controller) × ((w : ℕ) × Disturbance a v w × ((s : ℕ) × JoinsIn a (level a k) s w))
+      begun : (v : ℕ) → (v < length t) × T (begins a (suc k) t v) → T (mayBeDisturbed (ownerAt a v)) × ((w : ℕ) × Disturbance a v w × ((s : ℕ) × JoinsIn a (level a k) s w))
       begun v h =
           let d = some-disturbance a v into .0 (h .1) in
           let r = value-taken a k (d .0) .0 (d .2) in
-          (disturbed-is-controller a wf v (d .0) (d .1), (d .0, d .1, (r .0, joins-in a k is (r .0) (d .0) .1 (r .1))))
+          (wf .disturbed v (d .0) (d .1), (d .0, d .1, (r .0, joins-in a k is (r .0) (d .0) .1 (r .1))))
 
   level-is : (k : ℕ) → LevelIs a k
   level-is zero = level-zero a

@@ -4,19 +4,24 @@ use native.Mathlib.Decide.{decLt}
 use native.Mathlib.Omega.{arith}
 use mathlib.Core.Path.{_≡_, subst}
 use mathlib.Core.Logic.{_⊎_, inl, inr}
-use mathlib.Core.Bool.{Bool, _&&_, _||_, not}
+use mathlib.Core.Bool.{Bool, true, false, _&&_, _||_, not}
 use mathlib.Core.List.{List·Memᴰ, Memᴰ·cast}
 use lib.Dec.{T, eqb, eqb·suc-zero, ltb, ltb→lt, T-not, not-T}
 use Rattle.search.specs.Below.{someBelow}
-use Rattle.game.specs.Arena.{Arena, Move, WellFormed, size, ownerAt, mayBeDisturbed, Meant, disturbanceMove}
+use Rattle.game.specs.Arena.{Arena, Move, Owner, WellFormed, size, ownerAt, mayBeDisturbed, hasMeant, Meant, meantMove, disturbanceMove}
 use Rattle.game.specs.Table.{someMove, everyMove, meantFrom}
-use Rattle.game.specs.MoveTests.{and-left, and-right, or-left, or-right, passes-or-fails, some-found, every-found, meant-move}
+use Rattle.game.specs.MoveTests.{and-left, and-right, and-both, or-left, or-right, passes-or-fails, some-found, every-found, meant-move}
+
+-- a move of this kind leaves positions of this owner
+unfoldable pub leaves : (meant : Bool) → Owner → Bool
+leaves true o = hasMeant o
+leaves false o = mayBeDisturbed o
 
 unfoldable pub fits : Arena → Move → Bool
-fits a m = ltb (m .cost) 2 && (ltb (m .from) (size a) && (ltb (m .to) (size a) && (eqb (m .cost) 0 || mayBeDisturbed (ownerAt a (m .from)))))
+fits a m = ltb (m .cost) 2 && (ltb (m .from) (size a) && (ltb (m .to) (size a) && leaves (eqb (m .cost) 0) (ownerAt a (m .from))))
 
 unfoldable pub isWellFormed : Arena → Bool
-isWellFormed a = everyMove (fits a) (a .moves) && not (someBelow (λ v. not (someMove (meantFrom v) (a .moves))) (size a))
+isWellFormed a = everyMove (fits a) (a .moves) && not (someBelow (λ v. hasMeant (ownerAt a v) && not (someMove (meantFrom v) (a .moves))) (size a))
 
 none-below : (p : ℕ → Bool) (n v : ℕ) → T (not (someBelow p n)) → v < n → T (p v) → ⊥
 unfolding someBelow
@@ -31,7 +36,7 @@ none-below p (suc n) v h l t = go (decLt v n) (none-below p n v)
     go (no g) below = let e : v ≡ n = omega arith in T-not (all || p n) h (or-right all (p n) (subst (λ (x : ℕ). T (p x)) e t))
 
 pub well-formed : (a : Arena) → T (isWellFormed a) → WellFormed a
-unfolding isWellFormed fits
+unfolding isWellFormed fits leaves
 well-formed a h =
     record {
       kind = λ m mem. ltb→lt (m .cost) 2 (and-left (c m) (f m && (t m && d m)) (each m mem));
@@ -40,14 +45,15 @@ well-formed a h =
       disturbed = λ v w (k, mem).
           let m = disturbanceMove (suc k) v w in
           rw (eqb·suc-zero k) at (and-right (t m) (d m) (and-right (f m) (t m && d m) (rest m mem)));
-      meant = λ v l. target v (some-found (meantFrom v) (a .moves) (has v l (passes-or-fails (someMove (meantFrom v) (a .moves)))));
+      resting = λ v w mem. let m = meantMove v w in and-right (t m) (d m) (and-right (f m) (t m && d m) (rest m mem));
+      meant = λ v l h. target v (some-found (meantFrom v) (a .moves) (has v l h (passes-or-fails (someMove (meantFrom v) (a .moves)))));
     }
   where
     moves : Bool
     moves = everyMove (fits a) (a .moves)
 
     lacks : ℕ → Bool
-    lacks v = not (someMove (meantFrom v) (a .moves))
+    lacks v = hasMeant (ownerAt a v) && not (someMove (meantFrom v) (a .moves))
 
     c : Move → Bool
     c m = ltb (m .cost) 2
@@ -59,7 +65,7 @@ well-formed a h =
     t m = ltb (m .to) (size a)
 
     d : Move → Bool
-    d m = eqb (m .cost) 0 || mayBeDisturbed (ownerAt a (m .from))
+    d m = leaves (eqb (m .cost) 0) (ownerAt a (m .from))
 
     each : (m : Move) → List·Memᴰ m (a .moves) → T (fits a m)
     each m mem = every-found (fits a) (a .moves) m (and-left moves (not (someBelow lacks (size a))) h) mem
@@ -67,9 +73,11 @@ well-formed a h =
     rest : (m : Move) → List·Memᴰ m (a .moves) → T (f m && (t m && d m))
     rest m mem = and-right (c m) (f m && (t m && d m)) (each m mem)
 
-    has : (v : ℕ) → v < size a → T (someMove (meantFrom v) (a .moves)) ⊎ T (lacks v) → T (someMove (meantFrom v) (a .moves))
-    has v l (inl s) = s
-    has v l (inr n) = absurd (none-below lacks (size a) v (and-right moves (not (someBelow lacks (size a))) h) l n)
+    has : (v : ℕ) → v < size a → T (hasMeant (ownerAt a v)) → T (someMove (meantFrom v) (a .moves)) ⊎ T (not (someMove (meantFrom v) (a .moves))) → T (someMove (meantFrom v) (a .moves))
+    has v l o (inl s) = s
+    has v l o (inr n) =
+        absurd (none-below lacks (size a) v (and-right moves (not (someBelow lacks (size a))) h) l
+        (and-both (hasMeant (ownerAt a v)) (not (someMove (meantFrom v) (a .moves))) o n))
 
     target : (v : ℕ) → (m : Move) × List·Memᴰ m (a .moves) × T (meantFrom v m) → (w : ℕ) × Meant a v w
     target v r = (r .0 .to, Memᴰ·cast (meant-move v (r .0) (r .2)) (r .1))

@@ -1,4 +1,4 @@
--- Three readings of a value that document 01 names as wrong ("Charts at the edges"): each is defined here, and answers
+-- Three readings of a value that document 01 names as wrong ("Charts at the edges"), and one of R: each is defined here, and answers
 -- something else than the value on a chart.
 use Prim.Native.Nat.{ℕ, zero, suc, _+_, _≤_}
 use native.Mathlib.Omega.{arith}
@@ -7,17 +7,18 @@ use mathlib.Core.Bool.{Bool, true, false, cond, _&&_}
 use mathlib.Core.List.{List, [], _∷_}
 use lib.Dec.{T, eqb, eqb→eq}
 use Rattle.game.specs.Value.{Value, fin, ever, _⊕_, leV}
-use Rattle.game.specs.Arena.{Arena, Move, Owner, controller, environment, ownerAt, unsafe, Meant, meantMove, disturbanceMove}
+use Rattle.game.specs.Arena.{Arena, Move, Owner, controller, environment, nobody, ownerAt, unsafe, Meant, meantMove, disturbanceMove}
 use Rattle.game.specs.Play.{Trail, still, meant, disturbed, last, Controller, Play, Unsafe}
 use Rattle.game.specs.Worth.{IsValue}
+use Rattle.game.specs.Rounds.{Positions, JoinsAs}
 use Rattle.game.specs.Journal.{Edge, Unending}
 use Rattle.game.specs.Table.{someMove, everyMove, meantFrom, disturbanceFrom}
-use Rattle.game.specs.ValueLaws.{fin-is-not-ever}
+use Rattle.game.specs.ValueLaws.{fin-injective, fin-is-not-ever}
 use Rattle.game.specs.MoveTests.{every-meant, every-found}
-use Rattle.game.specs.ChartValues.{O, L, chartIs, chart-value, chart-value-only}
+use Rattle.game.specs.ChartValues.{O, L, R, chartIs, chart-value, chart-value-only}
 
 -- "starting all values at 0 and raising them": passes of the local rule over a row of zeros. An unsafe position has 0, at L
--- the least of the meant targets counts, at O the greatest of them, but no more than a disturbance's target and one.
+-- the least of the meant targets counts, at O the greatest of them, but no more than a disturbance's target and one, which is all at R.
 unfoldable pub lower : Value → Value → Value
 lower x y = cond (leV x y) x y
 
@@ -39,6 +40,7 @@ leastDisturbed value v (m ∷ ms) = cond (disturbanceFrom v m) (lower (value (m 
 unfoldable pub localAs : Owner → Arena → (ℕ → Value) → ℕ → Value
 localAs controller a value v = lower (greatestMeant value v (a .moves)) (leastDisturbed value v (a .moves))
 localAs environment a value v = leastMeant value v (a .moves)
+localAs nobody a value v = leastDisturbed value v (a .moves)
 
 unfoldable pub raised : Arena → ℕ → ℕ → Value
 raised a zero v = fin 0
@@ -114,6 +116,22 @@ unsafe-moved (disturbed t w) u = tt
 pub counting-anyway-gives-f-one : (σ : Controller chart-f) (t : Trail) → Play chart-f σ 0 t → Unsafe chart-f 0 t → 1 ≤ countedAnyway chart-f 0 t
 counting-anyway-gives-f-one σ t p u = moved-counts σ t p (unsafe-moved t u)
 
+-- R as an O without meant moves: all its meant targets are placed, whatever is placed, so that round (0, 1) would take it
+abbrev pub chart-rest : Arena
+chart-rest = record { positions = R 0 ∷ R 1 ∷ []; moves = disturbanceMove 1 0 1 ∷ [] }
+
+pub idle-controller-joins-at-once : (placed : Positions) → JoinsAs controller chart-rest placed 0
+unfolding everyMove someMove meantFrom
+idle-controller-joins-at-once placed w m = absurd (every-meant chart-rest 0 (λ x. false) .0 tt w m)
+
+-- but it stands one disturbance
+pub rest-is-one-not-zero : IsValue chart-rest 0 (fin 1) × (¬ (IsValue chart-rest 0 (fin 0)))
+unfolding chartIs
+rest-is-one-not-zero = (
+  chart-value chart-rest 0 (fin 1) tt,
+  λ i. let e : _≡_ {A = ℕ} 0 1 = fin-injective 0 1 (chart-value-only chart-rest 0 (fin 1) tt (fin 0) i) in omega arith,
+)
+
 -- "letting a play recover after an unsafe position": it is safe from some point on
 abbrev pub Recovers : {a : Arena} {v : ℕ} → Unending a v → Type 0
 Recovers {a} ρ = (n : ℕ) × ((j : ℕ) → n ≤ j → T (unsafe a (ρ .position j)) → ⊥)
@@ -129,7 +147,13 @@ i-is-zero-not-ever = (chart-value chart-i 0 (fin 0) tt, λ i. fin-is-not-ever 0 
 all-to-one : (b : Bool) (v w : ℕ) → Edge b chart-i v w → w ≡ 1
 unfolding everyMove someMove
 all-to-one true v w e = eqb→eq w 1 (every-found (λ m. eqb (m .to) 1) (chart-i .moves) (disturbanceMove (suc (e .0)) v w) tt (e .1))
-all-to-one false v w e = eqb→eq w 1 (every-found (λ m. eqb (m .to) 1) (chart-i .moves) (meantMove v w) tt e)
+all-to-one false v w e = eqb→eq w 1 (every-found (λ m. eqb (m .to) 1) (chart-i .moves) (meantMove v w) tt (meant v e))
+  where
+    -- nothing rests there
+    meant : (v : ℕ) → Edge false chart-i v w → Meant chart-i v w
+    meant zero m = m
+    meant (suc zero) m = m
+    meant (suc (suc v)) m = m
 
 -- every play from there recovers, as if nothing could go wrong
 pub every-play-of-i-recovers : (ρ : Unending chart-i 0) → Recovers ρ

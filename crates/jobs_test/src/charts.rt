@@ -131,6 +131,27 @@ pub fn rows() {
     numbers(b"  tos after a refusal", &tos, 2);
 }
 
+// The rows of a chart with a position of rest, which begin with 9s too.
+pub fn resting_rows() {
+    let mut owners = [9u8; Chart::POSITIONS];
+    let mut marks = [9u8; Chart::POSITIONS];
+    let mut costs = [9u8; Chart::MOVES];
+    let mut froms = [9u16; Chart::MOVES];
+    let mut tos = [9u16; Chart::MOVES];
+    decode::load(
+        b"H    3    3\nL    0    0\nR    1    0\nO    2    1\nM    0    1\nD    1    2\nM    2    2\n",
+        &mut owners,
+        &mut marks,
+        &mut costs,
+        &mut froms,
+        &mut tos,
+    );
+    bytes(b"  owners, one of rest", &owners, 4);
+    bytes(b"  costs", &costs, 4);
+    numbers(b"  froms", &froms, 4);
+    numbers(b"  tos", &tos, 4);
+}
+
 // The first `count` numbers of a row.
 fn bytes(name: &[u8], row: &[u8], count: usize) {
     let mut i = 0;

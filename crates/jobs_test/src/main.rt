@@ -1,5 +1,5 @@
 // Asks the jobs about charts, plates, steps and rows of choices, good and bad, and writes what each answers and what the case is.
-// `stdin` has the cases, `stdout` what document 01 says of each. The first letter of a case's name is its job: `E` examines a chart, `C`
+// `stdin` has the cases, `stdout` what the documents say of each. The first letter of a case's name is its job: `E` examines a chart, `C`
 // is Checking, `R` Reading, `W` the program's answer, `S` a step of a run, `D` Comparing and `G` Listing.
 ghost use Rattle.cases.specs.CaseLaws.{Ordered};
 ghost use lib.ListN.{length};
@@ -22,21 +22,22 @@ struct Next {
 
 // The input has more bytes than io's large buffer.
 fn main() {
-    let mut input = [0u8; 131072];
+    let mut input = [0u8; 163840];
     let got = io::read_full(STDIN_FILENO, &mut input);
     cases(&input[..got]);
     charts::longest();
     charts::rows();
+    charts::resting_rows();
     plates::rows();
     sheets::longest();
 }
 
-// The cases of the input, of which there are fewer than 600.
+// The cases of the input, of which there are fewer than 800.
 fn cases(input: &[u8]) {
     let mut at: usize = 0;
     let mut run = Run::none();
     let mut k: usize = 0;
-    while k < 600 {
+    while k < 800 {
         let next = show_case(input, case_at(input, at), run);
         at = next.at;
         run = next.run;

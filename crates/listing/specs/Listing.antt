@@ -1,5 +1,5 @@
 -- Listing (document 02, order 2): a chart into the sheet of its good moves. "The job answers the count of lines, and refusal 10 looks only
--- at them", after 1 to 9. The sheet is computed here, by the rounds; that it is specs/Sheet.antt's is shown in specs/SheetLaws.antt.
+-- at them", after 1 to 9 and 17. The sheet is computed here, by the rounds; that it is specs/Sheet.antt's is shown in specs/SheetLaws.antt.
 use Prim.Native.Nat.{ℕ, _*_}
 use mathlib.Core.Path.{_≡_}
 use mathlib.Core.Bool.{cond}

@@ -14,7 +14,7 @@ use Rattle.rows.specs.NumberLaws.{choice-number}
 use Rattle.rows.specs.Notes.{found}
 use Rattle.game.specs.Value.{Value, fin, eqV}
 use Rattle.game.specs.ValueLaws.{eqV-sound}
-use Rattle.game.specs.Arena.{Arena, Owner, controller, environment, ownerAt, moveAt, Meant, Disturbance}
+use Rattle.game.specs.Arena.{Arena, Owner, controller, environment, nobody, ownerAt, moveAt, Meant, Disturbance}
 use Rattle.game.specs.Play.{Allows, targetOf}
 use Rattle.game.specs.Table.{meantFrom, disturbanceFrom}
 use Rattle.game.specs.MoveTests.{and-test, of-disturbance, of-meant, some-meant, some-disturbance}
@@ -24,9 +24,9 @@ use Rattle.moves.specs.declared.Kind.the-variants.{Meant as Chosen, Dist
 
 -- In rows
 
--- the kind by the four tests that the code makes
-abbrev pub rowKind : (own chosen meant disturbed : Bool) → Kind
-rowKind own chosen meant disturbed = cond own (cond (chosen && meant) Chosen (cond disturbed Disturbed Neither)) (cond meant Chosen Neither)
+-- the kind by the five tests that the code makes
+abbrev pub rowKind : (lane own chosen meant disturbed : Bool) → Kind
+rowKind lane own chosen meant disturbed = cond lane (cond meant Chosen Neither) (cond (own && chosen && meant) Chosen (cond disturbed Disturbed Neither))
 
 module _ {n m : ℕ} {owners costs froms tos : List ℕ} where
   module _ (a : Arena) (marks : List ℕ) (d : RowsOf a n m owners marks costs froms tos) (v w : ℕ) where
@@ -45,7 +45,7 @@ module _ {n m : ℕ} {owners costs froms tos : List ℕ} where
         (λ x e. rw (e, and-false))
 
   pub kind-is : (number v w : ℕ) {r : Kind} → v < n → w < 65535
-      → r ≡ rowKind (eqb (getD owners v 0) 0) (eqb number w) (found (numberAt froms) (leadsTo true w costs tos) m v) (found (numberAt froms) (leadsTo false w costs tos) m v)
+      → r ≡ rowKind (eqb (getD owners v 0) 1) (eqb (getD owners v 0) 0) (eqb number w) (found (numberAt froms) (leadsTo true w costs tos) m v) (found (numberAt froms) (leadsTo false w costs tos) m v)
       → KindIs n m owners costs froms tos number v w r
   unfolding moveKind kindAs
   kind-is number v w {r} inside small e =
@@ -55,9 +55,10 @@ module _ {n m : ℕ} {owners costs froms tos : List ℕ} where
             (go a choice (ownerAt a v));
       }
     where
-      go : (a : Arena) (choice : Value) (o : Owner) → rowKind (eqb (ownerNumber o) 0) (eqV choice (fin w)) (isMeant a v w) (isDisturbance a v w) ≡ kindAs o a choice v w
+      go : (a : Arena) (choice : Value) (o : Owner) → rowKind (eqb (ownerNumber o) 1) (eqb (ownerNumber o) 0) (eqV choice (fin w)) (isMeant a v w) (isDisturbance a v w) ≡ kindAs o a choice v w
       go a choice controller = refl
       go a choice environment = refl
+      go a choice nobody = refl
 
 -- In the arena
 
@@ -93,6 +94,11 @@ module _ (a : Arena) (choice : Value) (v w : ℕ) where
       go : (p : Bool) → T p ↔ Meant a v w → KindSays environment a choice v w (cond p Chosen Neither)
       go true c = c .0 tt
       go false c = c .1
+  says nobody = go (isDisturbance a v w) (disturbance-exactly a v w)
+    where
+      go : (q : Bool) → T q ↔ Disturbance a v w → KindSays nobody a choice v w (cond q Disturbed Neither)
+      go true d = d .0 tt
+      go false d = d .1
 
   -- no two kinds say what holds at once
   one-kind : (o : Owner) (j k : Kind) → KindSays o a choice v w j → KindSays o a choice v w k → j ≡ k
@@ -112,6 +118,13 @@ module _ (a : Arena) (choice : Value) (v w : ℕ) where
   one-kind environment Neither Chosen p q = absurd (p q)
   one-kind environment Neither Disturbed p q = absurd q
   one-kind environment Neither Neither p q = refl
+  one-kind nobody Chosen k p q = absurd p
+  one-kind nobody Disturbed Chosen p q = absurd q
+  one-kind nobody Disturbed Disturbed p q = refl
+  one-kind nobody Disturbed Neither p q = absurd (q p)
+  one-kind nobody Neither Chosen p q = absurd q
+  one-kind nobody Neither Disturbed p q = absurd (p q)
+  one-kind nobody Neither Neither p q = refl
 
   -- the computed kind is the one of which the sentence holds
   pub kind-exactly : (k : Kind) → (moveKind a choice v w ≡ k) ↔ KindSays (ownerAt a v) a choice v w k
@@ -129,6 +142,7 @@ module _ (a : Arena) (choice : Value) (v w : ℕ) where
       go : (o : Owner) → KindSays o a choice v w Chosen → Meant a v w × Allows o (targetOf choice) w
       go controller (c, m) = (m, sym (ap targetOf c))
       go environment m = (m, tt)
+      go nobody none = absurd none
 
   pub disturbance-follows : moveKind a choice v w ≡ Disturbed → Disturbance a v w
   disturbance-follows e = go (ownerAt a v) (kind-exactly Disturbed .0 e)
@@ -136,3 +150,4 @@ module _ (a : Arena) (choice : Value) (v w : ℕ) where
       go : (o : Owner) → KindSays o a choice v w Disturbed → Disturbance a v w
       go controller (c, d) = d
       go environment h = absurd h
+      go nobody d = d

@@ -8,7 +8,7 @@ use lib.Dec.{eqb}
 use Rattle.rows.specs.Rows.{RowsOf}
 use Rattle.rows.specs.Numbers.{numberOf}
 use Rattle.game.specs.Value.{Value, fin, eqV}
-use Rattle.game.specs.Arena.{Arena, Owner, controller, environment, ownerAt, Meant as MeantTarget, Disturbance as DisturbedTo}
+use Rattle.game.specs.Arena.{Arena, Owner, controller, environment, nobody, ownerAt, Meant as MeantTarget, Disturbance as DisturbedTo}
 use Rattle.game.specs.Table.{someMove, meantFrom, disturbanceFrom, ofKind}
 use Rattle.moves.specs.declared.Kind.{Kind}
 use Rattle.moves.specs.declared.Kind.the-variants.{Meant, Disturbance, Neither}
@@ -21,16 +21,17 @@ unfoldable pub isDisturbance : Arena → ℕ → ℕ → Bool
 isDisturbance a v w = someMove (λ m. disturbanceFrom v m && eqb (m .to) w) (a .moves)
 
 -- "At O it counts as meant if it is the plate's choice and a meant target, else as a disturbance if a D line has it. At L it
--- must be a meant target."
+-- must be a meant target." "a run at R accepts only disturbances" (document 02, order 4).
 unfoldable pub kindAs : Owner → Arena → Value → ℕ → ℕ → Kind
 kindAs controller a choice v w = cond (eqV choice (fin w) && isMeant a v w) Meant (cond (isDisturbance a v w) Disturbance Neither)
 kindAs environment a choice v w = cond (isMeant a v w) Meant Neither
+kindAs nobody a choice v w = cond (isDisturbance a v w) Disturbance Neither
 
 -- what a move from v to w is, with this choice at v
 unfoldable pub moveKind : Arena → Value → ℕ → ℕ → Kind
 moveKind a choice v w = kindAs (ownerAt a v) a choice v w
 
--- the same as a statement: what each kind says at O and at L
+-- the same as a statement: what each kind says at O, at L and at R
 abbrev pub KindSays : Owner → Arena → Value → ℕ → ℕ → Kind → Type 0
 KindSays controller a choice v w Meant = (choice ≡ fin w) × MeantTarget a v w
 KindSays controller a choice v w Disturbance = ((choice ≡ fin w) × MeantTarget a v w → ⊥) × DisturbedTo a v w
@@ -38,6 +39,9 @@ KindSays controller a choice v w Neither = ((choice ≡ fin w) × MeantTarget a 
 KindSays environment a choice v w Meant = MeantTarget a v w
 KindSays environment a choice v w Disturbance = ⊥
 KindSays environment a choice v w Neither = MeantTarget a v w → ⊥
+KindSays nobody a choice v w Meant = ⊥
+KindSays nobody a choice v w Disturbance = DisturbedTo a v w
+KindSays nobody a choice v w Neither = DisturbedTo a v w → ⊥
 
 -- In rows: the i-th move is of the kind sought and leads to w, and it leaves v
 unfoldable pub leadsTo : (meant : Bool) (w : ℕ) (costs tos : List ℕ) → ℕ → Bool

@@ -15,8 +15,8 @@ pub enum Kind {
     Neither,
 }
 
-// What a move from v to w is where this choice stands at v. The rows hold a chart; w is below 65,535, which is no position but the
-// dash.
+// What a move from v to w is where this choice stands at v: at R a disturbance or nothing. The rows hold a chart; w is below 65,535,
+// which is no position but the dash.
 pub fn move_kind(
     v: usize,
     w: usize,
@@ -32,13 +32,14 @@ pub fn move_kind(
     ensures { λ r. ⌜ KindIs n m (now (owners .entry)) (now (costs .entry)) (now (froms .entry)) (now (tos .entry)) choice v w r ⌝ }
 {
     let meant = has_move(true, v, w, n, m, costs, froms, tos);
-    if owners[v] != 0 {
+    let owner = owners[v];
+    if owner == 1 {
         if meant {
             return Kind::Meant;
         }
         return Kind::Neither;
     }
-    if (choice as usize == w) & meant {
+    if (owner == 0) & (choice as usize == w) & meant {
         return Kind::Meant;
     }
     if has_move(false, v, w, n, m, costs, froms, tos) {

@@ -3,7 +3,7 @@ use Prim.Native.Nat.{ℕ, _≤_, _<_}
 use native.Mathlib.Omega.{arith}
 use mathlib.Core.Path.{_≡_, refl, sym, subst}
 use Rattle.game.specs.Play.{LegalAs}
-use Rattle.game.specs.Arena.{Arena, Owner, controller, environment, WellFormed, size, meantMove}
+use Rattle.game.specs.Arena.{Arena, Owner, controller, environment, nobody, WellFormed, size, meantMove}
 use Rattle.rows.specs.Numbers.{numberOf}
 use Rattle.rows.specs.NumberLaws.{Fits}
 use Rattle.game.specs.Value.{Value, fin, ever}
@@ -98,3 +98,4 @@ pub legal-below : (a : Arena) → WellFormed a → (o : Owner) (v : ℕ) (x : Va
 unfolding Below
 legal-below a well controller v x l = subst (Below (size a)) (sym (l .1)) (well .to-position (meantMove v (l .0)) (l .2))
 legal-below a well environment v x l = subst (Below (size a)) (sym l) tt
+legal-below a well nobody v x l = subst (Below (size a)) (sym l) tt

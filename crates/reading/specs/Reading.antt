@@ -1,5 +1,5 @@
 -- Reading (document 01, "The jobs"): "a chart and a plate of the form under 11 into the first line's numbers and the three rows", and
--- refusals 1 to 9, then 10, then 11.
+-- refusals 1 to 9 and 17, then 10, then 11.
 use Prim.Native.Nat.{ℕ}
 use mathlib.Core.Path.{_≡_}
 use mathlib.Core.Bool.{cond, _&&_}

@@ -1,16 +1,18 @@
-// Checking by conditions 1 to 6, as document 01 words them.
+// Checking by conditions 1 to 6, as document 01 words them, and as document 02 has them at R.
 use crate::definition::GREATEST;
 use crate::definition::LEAST;
 use crate::definition::Weight;
 use crate::definition::over;
 use crate::definition::sum_up;
 use crate::sheet::CHOICE;
+use crate::sheet::CONTROLLER;
 use crate::sheet::Chart;
 use crate::sheet::DISTURBED;
 use crate::sheet::HEADER;
 use crate::sheet::LANE;
 use crate::sheet::MEANT;
 use crate::sheet::NONE;
+use crate::sheet::REST;
 use crate::sheet::STEP;
 use crate::sheet::Table;
 use crate::sheet::VALUE;
@@ -76,23 +78,26 @@ fn fault_at(chart: &Chart, table: &Table, v: usize) -> usize {
     0
 }
 
-// The choice is a meant target at O, `-` at L.
+// The choice is a meant target at O, `-` at L and at R.
 fn legal(chart: &Chart, table: &Table, v: usize) -> bool {
     let choice = get(table, CHOICE, v);
-    if owner(chart, v) == LANE {
+    if owner(chart, v) != CONTROLLER {
         return choice == NONE;
     }
     over(chart, table, v, MEANT, Weight::Named(choice), GREATEST) == 1
 }
 
-// At O the choice has at least this value, and each disturbance's target at least this value less one. At L each meant target has at
-// least this value.
+// At O the choice has at least this value; at O and at R each disturbance's target has at least this value less one. At L each meant
+// target has at least this value.
 fn held(chart: &Chart, table: &Table, v: usize, value: usize) -> bool {
-    if owner(chart, v) == LANE {
+    let letter = owner(chart, v);
+    if letter == LANE {
         return value <= over(chart, table, v, MEANT, Weight::Entry(VALUE), LEAST);
     }
-    if get(table, VALUE, get(table, CHOICE, v)) < value {
-        return false;
+    if letter == CONTROLLER {
+        if get(table, VALUE, get(table, CHOICE, v)) < value {
+            return false;
+        }
     }
     less_one(value) <= over(chart, table, v, DISTURBED, Weight::Entry(VALUE), LEAST)
 }
@@ -106,7 +111,7 @@ fn less_one(value: usize) -> usize {
 }
 
 // A safe position of finite value: at O some disturbance's target has a smaller value, or all meant targets are earlier; at L some
-// meant target is earlier.
+// meant target is earlier; at R some disturbance's target has a smaller value.
 fn ruined(chart: &Chart, table: &Table, v: usize, value: usize) -> bool {
     if value == NONE {
         return true;
@@ -119,6 +124,9 @@ fn ruined(chart: &Chart, table: &Table, v: usize, value: usize) -> bool {
     }
     if over(chart, table, v, DISTURBED, Weight::Entry(VALUE), LEAST) < value {
         return true;
+    }
+    if owner(chart, v) == REST {
+        return false;
     }
     over(chart, table, v, MEANT, Weight::Earlier, LEAST) == 1
 }

@@ -8,10 +8,10 @@ use crate::definition::weigh_choices;
 use crate::generate::below;
 use crate::listed::compare_sheets;
 use crate::sheet::CHOICE;
+use crate::sheet::CONTROLLER;
 use crate::sheet::COUNTS;
 use crate::sheet::Chart;
 use crate::sheet::HEADER;
-use crate::sheet::LANE;
 use crate::sheet::MEANT;
 use crate::sheet::NONE;
 use crate::sheet::RIGHT;
@@ -24,6 +24,7 @@ use crate::sheet::get;
 use crate::sheet::owner;
 use crate::sheet::positions;
 use crate::sheet::put;
+use crate::sheet::rests;
 use crate::text::Page;
 use crate::text::part;
 use crate::text::write_chart;
@@ -41,7 +42,7 @@ use weighing::weigh_chart;
 use writing::Written;
 
 // What was counted, in the order in which it is written. Plates that were refused are counted by the condition.
-pub type Tally = [usize; 18];
+pub type Tally = [usize; 19];
 
 const CHARTS: usize = 0;
 
@@ -65,11 +66,14 @@ pub const OTHERS: usize = 16;
 
 const MISMATCHES: usize = 17;
 
+// Positions of rest.
+pub const RESTS: usize = 18;
+
 // What lent rows are filled with.
 const FILLED: usize = 4660;
 
 pub fn add(tally: &mut Tally, k: usize, x: usize) {
-    tally[k % 18] = tally[k % 18] % 1000000000 + x % 1000000000;
+    tally[k % 19] = tally[k % 19] % 1000000000 + x % 1000000000;
 }
 
 // Counts a comparison that failed, and shows its chart; only the first few are shown.
@@ -146,6 +150,7 @@ fn count_chart(chart: &Chart, table: &Table, tally: &mut Tally) {
     add(tally, MOVES, cell(chart, RIGHT, 0));
     add(tally, ROUNDS, get(table, HEADER, 0));
     add(tally, CHECKSUM, checksum(table, n));
+    add(tally, RESTS, rests(chart));
     let highest = get(table, HEADER, 1);
     if highest != NONE {
         if tally[4] < highest {
@@ -370,7 +375,7 @@ fn weigh_controllers(
 // How many choices there are at a position, one where none is made.
 pub fn ways(chart: &Chart, v: usize) -> usize {
     if v < positions(chart) {
-        if owner(chart, v) != LANE {
+        if owner(chart, v) == CONTROLLER {
             return cell(chart, COUNTS, MEANT + v % 512);
         }
     }
@@ -416,10 +421,10 @@ fn choose_drawn(chart: &Chart, table: &mut Table, row: &mut [u16; 512], seed: &m
 
 // Chooses v's i-th meant target.
 pub fn choose(chart: &Chart, table: &mut Table, row: &mut [u16; 512], v: usize, i: usize) {
-    let x = if owner(chart, v) == LANE {
-        NONE
-    } else {
+    let x = if owner(chart, v) == CONTROLLER {
         target(chart, v, MEANT, i)
+    } else {
+        NONE
     };
     put(table, CHOICE, v, x);
     row[v % 512] = (x % 65536) as u16;

@@ -1,6 +1,7 @@
 // Values, choices, steps and worths by their definitions. A rule gives a position's entry in a column from the entries of its
 // targets; a column is settled by applying its rule to all positions until nothing changes.
 use crate::sheet::CHOICE;
+use crate::sheet::CONTROLLER;
 use crate::sheet::COUNTS;
 use crate::sheet::Chart;
 use crate::sheet::DISTURBED;
@@ -11,6 +12,7 @@ use crate::sheet::MEANT;
 use crate::sheet::MEMBER;
 use crate::sheet::NONE;
 use crate::sheet::PAIR;
+use crate::sheet::REST;
 use crate::sheet::RIGHT;
 use crate::sheet::STEP;
 use crate::sheet::Table;
@@ -153,8 +155,8 @@ fn entry_of(chart: &Chart, table: &Table, v: usize, rule: Rule) -> usize {
     }
 }
 
-// v is safe; at L every meant target is in the set; at O some meant target is, and every disturbance's target was in the set before,
-// whose positions have the value k by now.
+// v is safe; at L every meant target is in the set; at O some meant target is; at O and at R every disturbance's target was in the set
+// before, whose positions have the value k by now. At R a play may stop, so nothing else is asked.
 fn member(chart: &Chart, table: &Table, v: usize, k: usize) -> usize {
     if is_unsafe(chart, v) {
         return 0;
@@ -162,17 +164,21 @@ fn member(chart: &Chart, table: &Table, v: usize, k: usize) -> usize {
     if owner(chart, v) == LANE {
         return over(chart, table, v, MEANT, Weight::Entry(MEMBER), LEAST);
     }
-    let some = over(chart, table, v, MEANT, Weight::Entry(MEMBER), GREATEST);
+    let stays = if owner(chart, v) == REST {
+        1
+    } else {
+        over(chart, table, v, MEANT, Weight::Entry(MEMBER), GREATEST)
+    };
     further(
-        some,
+        stays,
         over(chart, table, v, DISTURBED, Weight::Valued(k), LEAST),
         LEAST,
     )
 }
 
-// The meant target of greatest value, the lowest number among equals.
+// The meant target of greatest value, the lowest number among equals; none at L and at R.
 fn choice(chart: &Chart, table: &Table, v: usize) -> usize {
-    if owner(chart, v) == LANE {
+    if owner(chart, v) != CONTROLLER {
         return NONE;
     }
     let best = over(chart, table, v, MEANT, Weight::Entry(VALUE), GREATEST);
@@ -204,6 +210,10 @@ fn step(chart: &Chart, table: &Table, v: usize) -> usize {
             return 0;
         }
     }
+    // No later round takes an R.
+    if owner(chart, v) == REST {
+        return NONE;
+    }
     more(over(chart, table, v, MEANT, Weight::Round, GREATEST))
 }
 
@@ -215,9 +225,12 @@ fn worth(chart: &Chart, table: &Table, v: usize) -> usize {
     if owner(chart, v) == LANE {
         return over(chart, table, v, MEANT, Weight::Entry(WORTH), LEAST);
     }
+    let disturbed = more(over(chart, table, v, DISTURBED, Weight::Entry(WORTH), LEAST));
+    if owner(chart, v) == REST {
+        return disturbed;
+    }
     let chosen = get(table, WORTH, get(table, CHOICE, v));
-    let disturbed = over(chart, table, v, DISTURBED, Weight::Entry(WORTH), LEAST);
-    further(chosen, more(disturbed), LEAST)
+    further(chosen, disturbed, LEAST)
 }
 
 // 1 where v's value is finite and no lower position has the same pair of value and step.

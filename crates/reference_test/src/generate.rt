@@ -5,6 +5,7 @@ use crate::sheet::DISTURBED;
 use crate::sheet::LANE;
 use crate::sheet::MEANT;
 use crate::sheet::NONE;
+use crate::sheet::REST;
 use crate::sheet::RIGHT;
 use crate::sheet::add_move;
 use crate::sheet::cell;
@@ -15,9 +16,9 @@ use crate::sheet::positions;
 use crate::sheet::put_line;
 
 // Which charts are drawn: the count of positions; how many moves a position has at most, and 1 where it has that many exactly; how
-// many positions of a hundred are the lane's, and how many unsafe; and how far off a target is, 0 for anywhere. Where targets are
-// near, disturbances lead downward and position 0 is unsafe, so that values grow high.
-type Shape = [usize; 6];
+// many positions of a hundred are the lane's, and how many unsafe; how far off a target is, 0 for anywhere; and how many positions of
+// a hundred are of rest. Where targets are near, disturbances lead downward and position 0 is unsafe, so that values grow high.
+type Shape = [usize; 7];
 
 // By which marks are left blank: what the draws have come to, apart from those of the charts, and the count of blank marks.
 pub type Blanks = [usize; 2];
@@ -29,13 +30,16 @@ pub fn below(seed: &mut usize, k: usize) -> usize {
     if k == 0 { 0 } else { x / 2048 % k }
 }
 
-// A chart of a kind: the one with a number, or one that is drawn.
+// A chart of a kind: the one with a number, or one that is drawn. Kinds from 10 up have positions of rest.
 pub fn build(chart: &mut Chart, kind: usize, number: usize, seed: &mut usize) {
     match kind {
         0 => numbered(chart, 1, number % 6, 0),
         1 => numbered(chart, 2, number % 30, number / 30 % 30),
         2 => straight(chart, 512, CONTROLLER),
         3 => straight(chart, 512, LANE),
+        10 => numbered(chart, 1, number % 4 + 6, 0),
+        11 => numbered_resting(chart, number),
+        12 => straight(chart, 512, REST),
         _ => drawn(chart, kind, seed),
     }
 }
@@ -71,11 +75,27 @@ fn numbered(chart: &mut Chart, n: usize, number: usize, other: usize) {
     }
 }
 
-// A position by its number, the lane's ones last. One position has one set of targets that is not empty, and two positions have three.
+// A chart of two positions by its number: the 240 in which only position 1 is of rest, then the 304 in which position 0 is.
+fn numbered_resting(chart: &mut Chart, number: usize) {
+    if number < 240 {
+        numbered(chart, 2, number % 30, number / 30 + 30);
+    } else {
+        numbered(chart, 2, (number - 240) % 8 + 30, (number - 240) / 8);
+    }
+}
+
+// A position by its number, the lane's ones after the controller's and those of rest last. One position has one set of targets that is
+// not empty, and two positions have three.
 fn numbered_position(chart: &mut Chart, v: usize, number: usize, n: usize) {
-    let rest = number / 2;
-    let meant = if n == 1 { 1 } else { rest % 3 + 1 };
-    let disturbed = if n == 1 { rest } else { rest / 3 };
+    let half = number / 2;
+    let moving = if n == 1 { 3 } else { 15 };
+    if moving <= half {
+        place(chart, v, REST, number % 2);
+        add_set(chart, v, DISTURBED, half - moving);
+        return;
+    }
+    let meant = if n == 1 { 1 } else { half % 3 + 1 };
+    let disturbed = if n == 1 { half } else { half / 3 };
     let sets = if n == 1 { 2 } else { 4 };
     if disturbed < sets {
         place(chart, v, CONTROLLER, number % 2);
@@ -98,7 +118,7 @@ fn add_set(chart: &mut Chart, v: usize, kind: usize, set: usize) {
 }
 
 // The chart in which every position leads to the one below it, down to the unsafe 0: at the lane's by its only move, so that steps
-// grow to n - 1, and at the controller's by a disturbance, so that values do.
+// grow to n - 1, and at the controller's and at those of rest by a disturbance, so that values do. Of rest are all positions or none.
 fn straight(chart: &mut Chart, n: usize, letter: usize) {
     put_line(chart, 0, 72, n, 0);
     let mut v = 0;
@@ -109,6 +129,10 @@ fn straight(chart: &mut Chart, n: usize, letter: usize) {
 }
 
 fn straight_position(chart: &mut Chart, v: usize, letter: usize) {
+    if letter == REST {
+        straight_rest(chart, v);
+        return;
+    }
     if v == 0 {
         place(chart, 0, LANE, 1);
         add_move(chart, 0, MEANT, 0);
@@ -123,9 +147,25 @@ fn straight_position(chart: &mut Chart, v: usize, letter: usize) {
     }
 }
 
+fn straight_rest(chart: &mut Chart, v: usize) {
+    if v == 0 {
+        place(chart, 0, REST, 1);
+    } else {
+        place(chart, v, REST, 0);
+        add_move(chart, v, DISTURBED, v - 1);
+    }
+}
+
 // A chart of a shape that is drawn too.
 fn drawn(chart: &mut Chart, kind: usize, seed: &mut usize) {
-    let shape = shape_of(kind, below(seed, 40), below(seed, 100), below(seed, 40));
+    let rests = draw_rests(kind, seed);
+    let shape = shape_of(
+        kind % 10,
+        below(seed, 40),
+        below(seed, 100),
+        below(seed, 40),
+        rests,
+    );
     let n = shape[0] % 1024;
     put_line(chart, 0, 72, n, 0);
     let mut v = 0;
@@ -135,15 +175,23 @@ fn drawn(chart: &mut Chart, kind: usize, seed: &mut usize) {
     }
 }
 
-fn shape_of(kind: usize, size: usize, lanes: usize, dangers: usize) -> Shape {
+// How many positions of a hundred are of rest.
+fn draw_rests(kind: usize, seed: &mut usize) -> usize {
+    if kind < 10 {
+        return 0;
+    }
+    below(seed, 60) % 64 + 1
+}
+
+fn shape_of(kind: usize, size: usize, lanes: usize, dangers: usize, rests: usize) -> Shape {
     let few = size % 64;
     match kind {
-        4 => [few % 6 + 3, 6, 0, lanes, dangers, 0],
-        5 => [few + 20, 5, 0, lanes, dangers / 4, 0],
-        6 => [few + 20, 6, 0, lanes, dangers / 10, few % 4 + 1],
-        7 => [512, 8, 1, lanes, dangers / 10, 0],
-        9 => [3, 6, 0, lanes, dangers, 0],
-        _ => [512, 8, 0, lanes / 4, 0, few % 8 + 1],
+        4 => [few % 6 + 3, 6, 0, lanes, dangers, 0, rests],
+        5 => [few + 20, 5, 0, lanes, dangers / 4, 0, rests],
+        6 => [few + 20, 6, 0, lanes, dangers / 10, few % 4 + 1, rests],
+        7 => [512, 8, 1, lanes, dangers / 10, 0, rests],
+        9 => [3, 6, 0, lanes, dangers, 0, rests],
+        _ => [512, 8, 0, lanes / 4, 0, few % 8 + 1, rests],
     }
 }
 
@@ -155,6 +203,10 @@ fn draw_position(chart: &mut Chart, v: usize, shape: &Shape, seed: &mut usize) {
     } else {
         below(seed, most) % 64 + 1
     };
+    if draws_rest(shape[6], seed) {
+        draw_rest(chart, v, mark, shape, count, seed);
+        return;
+    }
     if below(seed, 100) < shape[3] {
         place(chart, v, LANE, mark);
         draw_moves(chart, v, MEANT, shape, count, seed);
@@ -166,6 +218,32 @@ fn draw_position(chart: &mut Chart, v: usize, shape: &Shape, seed: &mut usize) {
             draw_moves(chart, v, DISTURBED, shape, count - meant, seed);
         }
     }
+}
+
+// Nothing is drawn where no position is to be of rest.
+fn draws_rest(rests: usize, seed: &mut usize) -> bool {
+    if rests == 0 {
+        return false;
+    }
+    below(seed, 100) < rests
+}
+
+// A position of rest: up to so many disturbances, or so many exactly. A chart has a move, so the last position has some where no other
+// has.
+fn draw_rest(
+    chart: &mut Chart,
+    v: usize,
+    mark: usize,
+    shape: &Shape,
+    count: usize,
+    seed: &mut usize,
+) {
+    let moved = cell(chart, RIGHT, 0);
+    let last = (v % 1024 + 1 == shape[0]) & (moved == 0);
+    let some = below(seed, count % 64 + 1);
+    let disturbed = if last | (shape[2] == 1) { count } else { some };
+    place(chart, v, REST, mark);
+    draw_moves(chart, v, DISTURBED, shape, disturbed, seed);
 }
 
 fn draw_mark(v: usize, shape: &Shape, x: usize) -> usize {

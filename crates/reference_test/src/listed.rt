@@ -14,8 +14,8 @@ use crate::definition::count;
 use crate::definition::weigh_choices;
 use crate::generate::below;
 use crate::sheet::CHOICE;
+use crate::sheet::CONTROLLER;
 use crate::sheet::Chart;
-use crate::sheet::LANE;
 use crate::sheet::LEFT;
 use crate::sheet::LETTER;
 use crate::sheet::NONE;
@@ -80,7 +80,7 @@ fn is_choice(chart: &Chart, i: usize) -> bool {
     if cell(chart, LETTER, i) != 77 {
         return false;
     }
-    owner(chart, cell(chart, LEFT, i)) != LANE
+    owner(chart, cell(chart, LEFT, i)) == CONTROLLER
 }
 
 // And its target has at least the position's value.

@@ -1,12 +1,15 @@
 // Holds the library's answers against another implementation of document 01's definitions, on every chart of one and two positions and
 // on pseudo-random ones up to the largest size. It writes what was compared, a line for each kind of chart, and each comparison that
-// fails with its chart. Some kinds come again with marks left blank, by draws of their own: the numbers must be the same. Nothing but the
-// jobs that are compared is shared with the library.
+// fails with its chart. Some kinds come again with marks left blank, by draws of their own: the numbers must be the same. Then come charts
+// with positions of rest, whose count stands in the line. Nothing but the jobs that are compared is shared with the library.
+use crate::compare::RESTS;
 use crate::compare::Tally;
 use crate::compare::compare_chart;
 use crate::generate::Blanks;
 use crate::generate::blank_marks;
 use crate::generate::build;
+use crate::sheet::RIGHT;
+use crate::sheet::cell;
 
 mod checker;
 mod compare;
@@ -38,11 +41,33 @@ fn main() {
     some(b"3 to 8 positions", 4, 1000, 50);
     some(b"20 to 59 positions, targets near", 6, 60, 50);
     some(b"512 positions, 4,096 moves", 7, 20, 50);
+    some_resting();
+}
+
+// Charts with positions of rest. By the numbers come two of one position and four of two that have no move: they are left out. Of three
+// positions there are 862,904, so these are drawn.
+fn some_resting() {
+    some(b"every chart of 1 position, of rest", 10, 4, 0);
+    some(b"every chart of 2 positions, some of rest", 11, 544, 0);
+    some(
+        b"512 positions, disturbances downward, all of rest",
+        12,
+        1,
+        0,
+    );
+    some(b"3 positions, some of rest", 19, 1000, 0);
+    some(b"3 to 8 positions, some of rest", 14, 1000, 0);
+    some(b"20 to 59 positions, some of rest", 15, 60, 0);
+    some(b"20 to 59 positions, targets near, some of rest", 16, 60, 0);
+    some(b"512 positions, 4,096 moves, some of rest", 17, 20, 0);
+    some(b"512 positions, targets near, some of rest", 18, 20, 0);
+    some(b"every chart of 2 positions, some of rest", 11, 544, 50);
+    some(b"3 to 8 positions, some of rest", 14, 1000, 50);
 }
 
 // Charts of a kind, in which so many of a hundred marks 0 are blank.
 fn some(name: &[u8], kind: usize, charts: usize, share: usize) {
-    let mut tally = [0usize; 18];
+    let mut tally = [0usize; 19];
     let mut seed = 1;
     let mut blanks = [1, 0];
     let mut i = 0;
@@ -52,7 +77,8 @@ fn some(name: &[u8], kind: usize, charts: usize, share: usize) {
     }
     report(&tally);
     io::write_all(1, name);
-    report_blanks(blanks[1]);
+    report_count(b": ", tally[RESTS]);
+    report_count(b", marks blank: ", blanks[1]);
     io::write_all(1, b"\n");
 }
 
@@ -66,6 +92,10 @@ fn compare_built(
 ) {
     let mut chart = [0usize; 32768];
     build(&mut chart, kind, number, seed);
+    // Without a move it is no chart.
+    if cell(&chart, RIGHT, 0) == 0 {
+        return;
+    }
     blank_marks(&mut chart, share, blanks);
     compare_chart(&chart, seed, tally);
 }
@@ -79,9 +109,10 @@ fn report(tally: &Tally) {
     }
 }
 
-fn report_blanks(count: usize) {
+// A count with its name, where it is not 0.
+fn report_count(name: &[u8], count: usize) {
     if 0 < count {
-        io::write_all(1, b", marks blank: ");
+        io::write_all(1, name);
         io::print_decimal(1, count as u64);
     }
 }

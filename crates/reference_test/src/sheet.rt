@@ -28,6 +28,8 @@ pub const CONTROLLER: usize = 79;
 
 pub const LANE: usize = 76;
 
+pub const REST: usize = 82;
+
 // Eight columns of 512 entries.
 pub type Table = [usize; 4096];
 
@@ -59,6 +61,20 @@ pub fn owner(chart: &Chart, v: usize) -> usize {
 
 pub fn is_unsafe(chart: &Chart, v: usize) -> bool {
     cell(chart, RIGHT, v % 512 + 1) == 1
+}
+
+// How many positions are of rest.
+pub fn rests(chart: &Chart) -> usize {
+    let n = positions(chart);
+    let mut found = 0;
+    let mut v = 0;
+    while v < n {
+        if owner(chart, v) == REST {
+            found = more(found);
+        }
+        v += 1;
+    }
+    found
 }
 
 pub fn put_line(chart: &mut Chart, i: usize, letter: usize, left: usize, right: usize) {

@@ -1,8 +1,9 @@
 -- What each refusal gives, as document 01's table has it: "A refusal gives a number and a line, counted from 0 in the chart (1 to 9) or
--- plate (11), else 0; 14 gives the fault's position and condition besides." The one definition of the table's numbers.
+-- plate (11), else 0; 14 gives the fault's position and condition besides", and document 02, order 4: "17 (with its line)", in the chart too.
+-- The one definition of the table's numbers.
 use Prim.Native.Nat.{ℕ}
 use Rattle.refusal.specs.declared.Misdrawn.{Misdrawn}
-use Rattle.refusal.specs.declared.Misdrawn.the-variants.{Length, Form, Limits, Count, Sequence, Endpoint, Disturbed, Order, NoMeant}
+use Rattle.refusal.specs.declared.Misdrawn.the-variants.{Length, Form, Limits, Count, Sequence, Endpoint, Disturbed, Resting, Order, NoMeant}
 use Rattle.refusal.specs.declared.Refusal.{Refusal}
 use Rattle.refusal.specs.declared.Refusal.the-variants.{Chart, Short, Plate, Choice, Position, Fault, Move, Seen}
 use Rattle.refusal.specs.declared.Numbers.{Numbers}
@@ -16,6 +17,7 @@ misdrawnNumber Count = 4
 misdrawnNumber (Sequence line) = 5
 misdrawnNumber (Endpoint line) = 6
 misdrawnNumber (Disturbed line) = 7
+misdrawnNumber (Resting line) = 17
 misdrawnNumber (Order line) = 8
 misdrawnNumber (NoMeant line) = 9
 
@@ -28,6 +30,7 @@ misdrawnLine Count = 0
 misdrawnLine (Sequence line) = line
 misdrawnLine (Endpoint line) = line
 misdrawnLine (Disturbed line) = line
+misdrawnLine (Resting line) = line
 misdrawnLine (Order line) = line
 misdrawnLine (NoMeant line) = line
 
@@ -41,7 +44,7 @@ refusalNumber (Fault position condition) = 14
 refusalNumber Move = 15
 refusalNumber Seen = 16
 
--- "a line, counted from 0 in the chart (1 to 9) or plate (11), else 0"
+-- "a line, counted from 0 in the chart (1 to 9) or plate (11), else 0"; 17 has its line in the chart
 abbrev pub refusalLine : Refusal → ℕ
 refusalLine (Chart m) = misdrawnLine m
 refusalLine Short = 0

@@ -2,7 +2,8 @@
 ghost use mathlib.Core.Path.{_≡_};
 ghost use Rattle.refusal.specs.Numbers.{misdrawnLine, misdrawnNumber, noNumbers, numbersOf, refusalCondition, refusalLine, refusalNumber, refusalPosition};
 
-// Refusals 1 to 9 in the table's order, which a chart alone can give, each with its line where that is not always line 0.
+// Refusals 1 to 9 and 17 in the order of their tests, which a chart alone can give, each with its line where that is not always line 0. 17 is
+// tested beside 7 (document 02, order 4).
 pub enum Misdrawn {
     Length,
     Form(usize),
@@ -11,6 +12,7 @@ pub enum Misdrawn {
     Sequence(usize),
     Endpoint(usize),
     Disturbed(usize),
+    Resting(usize),
     Order(usize),
     NoMeant(usize),
 }
@@ -49,6 +51,7 @@ impl Misdrawn {
             Misdrawn::Sequence(_) => 5,
             Misdrawn::Endpoint(_) => 6,
             Misdrawn::Disturbed(_) => 7,
+            Misdrawn::Resting(_) => 17,
             Misdrawn::Order(_) => 8,
             Misdrawn::NoMeant(_) => 9,
         }
@@ -66,6 +69,7 @@ impl Misdrawn {
             Misdrawn::Sequence(line) => line,
             Misdrawn::Endpoint(line) => line,
             Misdrawn::Disturbed(line) => line,
+            Misdrawn::Resting(line) => line,
             Misdrawn::Order(line) => line,
             Misdrawn::NoMeant(line) => line,
         }

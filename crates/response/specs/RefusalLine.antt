@@ -13,12 +13,12 @@ use Rattle.line.specs.Text.{lineText}
 use Rattle.line.specs.declared.Entry.the-variants.{Number}
 use Rattle.refusal.specs.Numbers.{misdrawnLine, numbersOf}
 use Rattle.refusal.specs.declared.Misdrawn.{Misdrawn}
-use Rattle.refusal.specs.declared.Misdrawn.the-variants.{Length, Form, Limits, Count, Sequence, Endpoint, Disturbed, Order, NoMeant}
+use Rattle.refusal.specs.declared.Misdrawn.the-variants.{Length, Form, Limits, Count, Sequence, Endpoint, Disturbed, Resting, Order, NoMeant}
 use Rattle.refusal.specs.declared.Refusal.the-variants.{Chart as OfChart}
 use Rattle.chart.specs.Text.{positionsOf, movesOf}
 use Rattle.chart.specs.Examined.{examined}
 use Rattle.chart.specs.Exact.{refused-exactly}
-use Rattle.chart.specs.Refusals.{BadDisturbance, BadEndpoint, BadForm, First, OutOfOrder, OutOfSequence, OutsideLimits, WithoutMeant}
+use Rattle.chart.specs.Refusals.{BadDisturbance, BadEndpoint, BadForm, First, MeantAtRest, OutOfOrder, OutOfSequence, OutsideLimits, WithoutMeant}
 use Rattle.chart.specs.declared.Examination.the-variants.{Refused}
 use Rattle.response.specs.Response.{refusalText}
 
@@ -39,7 +39,7 @@ module _ (text : List ℕ) where
       go false e = omega (arith, ltb-false 0 line e)
 
   line-within : (r : Misdrawn) → First text r → misdrawnLine r ≤ 4608
-  unfolding BadForm OutOfSequence BadEndpoint BadDisturbance OutOfOrder WithoutMeant
+  unfolding BadForm OutOfSequence BadEndpoint BadDisturbance MeantAtRest OutOfOrder WithoutMeant
   line-within Length f = omega arith
   line-within Limits f = omega arith
   line-within Count f = omega arith
@@ -47,6 +47,7 @@ module _ (text : List ℕ) where
   line-within (Sequence line) f = one-of-the-lines line (omega (arith, f .applies .0 .1)) (λ p. f .none-before Limits (inr (refl, inl p)))
   line-within (Endpoint line) f = one-of-the-lines line (f .applies .0 .1) (λ p. f .none-before Limits (inr (refl, inl p)))
   line-within (Disturbed line) f = one-of-the-lines line (f .applies .0 .1) (λ p. f .none-before Limits (inr (refl, inl p)))
+  line-within (Resting line) f = one-of-the-lines line (f .applies .0 .1) (λ p. f .none-before Limits (inr (refl, inl p)))
   line-within (Order line) f = one-of-the-lines line (f .applies .0 .1) (λ p. f .none-before Limits (inr (refl, inl p)))
   line-within (NoMeant line) f = one-of-the-lines line (omega (arith, f .applies .0 .1)) (λ p. f .none-before Limits (inl (omega arith)))
 

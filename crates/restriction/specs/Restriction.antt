@@ -14,7 +14,7 @@ use Rattle.rows.specs.Copies.{CopyOf}
 unfoldable pub isChosen : (costs froms tos choices : List ℕ) → ℕ → Bool
 isChosen costs froms tos choices i = eqb (getD costs i 0) 0 && eqb (getD choices (getD froms i 0) 0) (getD tos i 0)
 
--- the choice at v is a meant target at O (its flag is 1), 65,535 at L
+-- the choice at v is a meant target at O (its flag is 1), 65,535 at L and R
 unfoldable pub isLegal : (owners choices flags : List ℕ) → ℕ → Bool
 isLegal owners choices flags v = cond (eqb (getD owners v 0) 0) (eqb (getD flags v 0) 1) (eqb (getD choices v 0) 65535)
 

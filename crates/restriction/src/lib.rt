@@ -54,7 +54,7 @@ pub fn flag_chosen(
     }
 }
 
-// The choice at v is a meant target at O, none at L.
+// The choice at v is a meant target at O, none at L and R.
 fn is_legal(v: usize, owners: &[u8], choices: &[u16], flags: &[u8]) -> bool
     requires { ⌜ (v < length (now owners)) × (v < length (now choices)) × (v < length (now flags)) ⌝ }
     ensures { λ r. ⌜ r ≡ isLegal (now (owners .entry)) (now (choices .entry)) (now (flags .entry)) v ⌝ }

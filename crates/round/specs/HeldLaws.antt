@@ -13,8 +13,9 @@ use Rattle.rows.specs.Rows.{ownerNumber, RowsOf}
 use Rattle.rows.specs.Numbers.{numberOf, numberAt, free}
 use Rattle.rows.specs.Notes.{Noted, found}
 use Rattle.search.specs.Below.{count-zero, bit, bit-one}
-use Rattle.game.specs.Arena.{Arena, Move, Owner, controller, environment, ownerAt, moveAt}
+use Rattle.game.specs.Arena.{Arena, Move, Owner, controller, environment, nobody, ownerAt, moveAt}
 use Rattle.game.specs.Table.{Table, Placement, unplaced, placed, placementAt, isPlaced, hasValue, placedValue, placedStep, place, someMove, meantFrom, disturbanceFrom, ready, readyAs, begins}
+use Rattle.game.specs.MoveTests.{none-at-rest}
 use Rattle.game.specs.TableLaws.{Takes, place-at, place-length}
 use Rattle.round.specs.Round.{taken, Placing, decides, disturbs, readyFlag}
 use Rattle.round.specs.Held.{Holds, Flags}
@@ -78,6 +79,7 @@ module _ (a : Arena) (n m : ℕ) (owners marks costs froms tos : List ℕ) (d : 
     settling : Owner → Move → Bool
     settling controller x = meantFrom v x && not (isPlaced (placementAt t (x .to)))
     settling environment x = meantFrom v x && isPlaced (placementAt t (x .to))
+    settling nobody x = meantFrom v x && isPlaced (placementAt t (x .to))
 
     decided : (o : Owner) → ownerAt a v ≡ o → found (numberAt froms) (decides owners costs froms tos values) m v ≡ someMove (settling o) (a .moves)
     unfolding settling decides meantFrom
@@ -92,10 +94,12 @@ module _ (a : Arena) (n m : ℕ) (owners marks costs froms tos : List ℕ) (d : 
         same : (o : Owner) → ownerAt a v ≡ o → (j : ℕ) → j < m → moveAt a j .from ≡ v → decides owners costs froms tos values j ≡ settling o (moveAt a j)
         same controller own j l z = rw (owned controller own j l z, target j l, d .cost j l, eq-eqb (moveAt a j .from) v z, and-true)
         same environment own j l z = rw (owned environment own j l z, target j l, d .cost j l, eq-eqb (moveAt a j .from) v z, and-true, Bool·not-not)
+        same nobody own j l z = rw (owned nobody own j l z, target j l, d .cost j l, eq-eqb (moveAt a j .from) v z, and-true, Bool·not-not)
 
         other : (o : Owner) (x : Move) → eqb (x .from) v ≡ false → settling o x ≡ false
         other controller x e = rw (e, and-false)
         other environment x e = rw (e, and-false)
+        other nobody x e = rw (e, and-false)
 
     -- the flags are those of the positions that are ready
     pub ready-flag : (flags : List ℕ) → Noted n (numberAt froms) (decides owners costs froms tos values) (readyFlag owners) m flags → eqb (getD flags v 0) 1 ≡ ready a t v
@@ -107,6 +111,7 @@ module _ (a : Arena) (n m : ℕ) (owners marks costs froms tos : List ℕ) (d : 
             ≡ readyAs o a t v
         go controller own = bit-one _ ∙ ap not (decided controller own)
         go environment own = bit-one _ ∙ decided environment own
+        go nobody own = bit-one _ ∙ decided nobody own ∙ none-at-rest a (d .well) v own (λ w. isPlaced (placementAt t w))
 
     -- and those of the positions that a disturbance leads from into value k
     pub disturbed-flag : (k : ℕ) → k < 65535 → (flags : List ℕ) → Noted n (numberAt froms) (disturbs costs tos values k) (λ v. bit) m flags → eqb (getD flags v 0) 1 ≡ begins a (suc k) t v

@@ -29,7 +29,7 @@ pub record PlacingAt (v : ℕ) (flags : List ℕ) (k s : ℕ) (values steps valu
   pub counted : count ≡ bit (taken flags values v)
 
 -- the i-th move decides whether the position that it leaves is ready: a meant move, at O into a position that is not
--- placed, at L into one that is
+-- placed, elsewhere into one that is. No move decides an R, which has none that is meant.
 unfoldable pub decides : (owners costs froms tos values : List ℕ) → ℕ → Bool
 decides owners costs froms tos values i =
     eqb (getD costs i 0) 0
@@ -39,7 +39,7 @@ decides owners costs froms tos values i =
 unfoldable pub firstFlag : ℕ → ℕ
 firstFlag owner = cond (eqb owner 0) 1 0
 
--- the flag of v: at O it is ready if no move decides it, at L if one does
+-- the flag of v: at O it is ready if no move decides it, elsewhere if one does
 unfoldable pub readyFlag : List ℕ → ℕ → Bool → ℕ
 readyFlag owners v decided = cond (eqb (getD owners v 0) 0) (bit (not decided)) (bit decided)
 

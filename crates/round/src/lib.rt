@@ -54,7 +54,7 @@ pub fn place(n: usize, flags: &[u8], k: u16, s: u16, values: &mut [u16], steps: 
     count
 }
 
-// The flag of a position before any of its moves is seen: 1 at O, 0 at L.
+// The flag of a position before any of its moves is seen: 1 at O, 0 at L and at R.
 fn first_flag(owner: u8) -> u8
     ensures { λ r. ⌜ r ≡ firstFlag owner ⌝ }
 {
@@ -166,8 +166,8 @@ fn turn(n: usize, firsts: &[u8], found: &[u8], flags: &mut [u8])
 }
 
 // Flags the positions that join round (k, s + 1): at O all meant targets are placed, at L one is. So at O a meant target that is not
-// placed turns the first flag, and at L one that is: each seeks a target that shows its first flag. The bounds are those of
-// rows that hold a chart.
+// placed turns the first flag, and at L one that is: each seeks a target that shows its first flag. At R, which has no meant move, nothing
+// turns it: no R joins. The bounds are those of rows that hold a chart.
 pub fn flag_ready(
     n: usize,
     m: usize,

@@ -5,7 +5,7 @@ use native.Mathlib.Omega.{arith}
 use mathlib.Core.Path.{_≡_}
 use mathlib.Core.List.{List}
 use lib.ListN.{length, getD}
-use Rattle.game.specs.Arena.{Arena, WellFormed, Owner, controller, environment, size, ownerAt, positionAt, moveAt}
+use Rattle.game.specs.Arena.{Arena, WellFormed, Owner, controller, environment, nobody, size, ownerAt, positionAt, moveAt}
 
 -- the first `count` numbers of a row are those of f
 abbrev pub RowIs : List ℕ → ℕ → (ℕ → ℕ) → Type 0
@@ -26,10 +26,11 @@ pub record Kept (count : ℕ) (old new : List ℕ) : Type 0 where
   pub rest : Stays count old new
   pub same-length : length new ≡ length old
 
--- an owner as a number in a row: 0 the controller, 1 the environment
+-- an owner as a number in a row: 0 the controller, 1 the environment, 2 nobody
 abbrev pub ownerNumber : Owner → ℕ
 ownerNumber controller = 0
 ownerNumber environment = 1
+ownerNumber nobody = 2
 
 -- the rows hold the arena, a well-formed one of n positions and m moves within the limits: owner and mark of each position, cost,
 -- from and to of each move; what lies past them is not said

@@ -9,7 +9,7 @@ use lib.ListN.{length, getD}
 use lib.Dec.{eqb}
 use borrow.Author.Tests.{eq-eqb, ne-eqb}
 use Rattle.search.specs.Below.{someBelow, some-front}
-use Rattle.game.specs.Arena.{Arena, Move, Owner, controller, environment, ownerAt, moveAt, noMove}
+use Rattle.game.specs.Arena.{Arena, Move, Owner, controller, environment, nobody, ownerAt, moveAt, noMove}
 use Rattle.game.specs.Restrict.{isController}
 use Rattle.game.specs.Table.{someMove}
 use Rattle.game.specs.Members.{at-member}
@@ -43,6 +43,7 @@ module _ (a : Arena) (n m : ℕ) (owners marks costs froms tos : List ℕ) (d : 
       go : (o : Owner) → eqb (ownerNumber o) 0 ≡ isController o
       go controller = refl
       go environment = refl
+      go nobody = refl
 
   -- the lines that leave v with a property are the moves with it, if the property is false of moves that leave another
   pub lines-of : (v : ℕ) (q : ℕ → Bool) (p : Move → Bool)

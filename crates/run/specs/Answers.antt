@@ -24,13 +24,13 @@ use Rattle.run.specs.declared.Started.the-variants.{Begun, Refused}
 use Rattle.run.specs.declared.Answer.{Answer}
 use Rattle.run.specs.declared.Answer.the-variants.{Taken as Went, Refused as Declined}
 
--- neither 1 to 9 nor 11: a chart, and a plate of the form
+-- neither 1 to 9, 17 nor 11: a chart, and a plate of the form
 pub record Readable (text plate : List ℕ) : Type 0 where
   pub chart : Chart
   pub taken : examined text ≡ Taken chart
   pub form : OfForm (chart .positions) plate
 
--- a start: 1 to 9, 11, then 13 for any plate of the form, then 14; it gives no other refusal
+-- a start: 1 to 9 and 17, 11, then 13 for any plate of the form, then 14; it gives no other refusal
 abbrev pub StartRefused : List ℕ → List ℕ → ℕ → Refusal → Type 0
 StartRefused text plate position (OfChart r) = examined text ≡ Turned r
 StartRefused text plate position (Plate line) = FormIs text plate line
@@ -53,7 +53,7 @@ pub record Moves (run : Run) (text plate : List ℕ) (to : ℕ) (k : Kind) : Typ
   pub inside : to < size (arenaOf text)
   pub kind : moveKind (arenaOf text) (choiceIn plate (run .position)) (run .position) to ≡ k
 
--- a report: 1 to 9, 11, 13, 15 and 16; it gives no other refusal
+-- a report: 1 to 9 and 17, 11, 13, 15 and 16; it gives no other refusal
 abbrev pub ReportRefused : Run → List ℕ → List ℕ → ℕ → Refusal → Type 0
 ReportRefused run text plate to (OfChart r) = examined text ≡ Turned r
 ReportRefused run text plate to (Plate line) = FormIs text plate line

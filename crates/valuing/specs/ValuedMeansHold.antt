@@ -14,7 +14,7 @@ use Rattle.rows.specs.NumberLaws.{Fits, value-of-number}
 use Rattle.rows.specs.declared.Chart.{Chart}
 use Rattle.game.specs.Value.{Value, fin, ever, _≼_}
 use Rattle.game.specs.ValueLaws.{fin-is-not-ever}
-use Rattle.game.specs.Arena.{Arena, Owner, controller, environment, WellFormed, size, ownerAt, Meant}
+use Rattle.game.specs.Arena.{Arena, Owner, controller, environment, nobody, WellFormed, size, ownerAt, Meant}
 use Rattle.game.specs.Play.{LegalAs}
 use Rattle.game.specs.PlayLaws.{meant-inside}
 use Rattle.game.specs.Worth.{IsValue}
@@ -73,11 +73,13 @@ module _ (a : Arena) (wf : WellFormed a) (f g : ℕ → Value) (same : Agree (si
   choice-carries : (o : Owner) (v : ℕ) (x : Value) → IsChoiceAs o a f v x → IsChoiceAs o a g v x
   choice-carries controller v x (w, e, is) = (w, e, best-carries v w is)
   choice-carries environment v x e = e
+  choice-carries nobody v x e = e
 
 -- a legal choice is a position, so its number stands for it
 legal-fits : (a : Arena) → WellFormed a → size a ≤ 512 → (o : Owner) (v : ℕ) (x : Value) → LegalAs o a v x → Fits x
 legal-fits a wf few controller v x (w, e, m) = subst Fits (sym e) (omega (arith, meant-inside a wf v w m))
 legal-fits a wf few environment v x e = subst Fits (sym e) tt
+legal-fits a wf few nobody v x e = subst Fits (sym e) tt
 
 -- what an answer with rounds says: the chart was accepted, and the rounds are counted
 record Took (text : List ℕ) (k : ℕ) : Type 0 where

@@ -1,5 +1,5 @@
 -- Valuing (document 01, "The jobs"): "a chart into three lent rows: values, choices, steps; it answers the rounds", and
--- refusals 1 to 9, then 10.
+-- refusals 1 to 9 and 17, then 10.
 use Prim.Native.Nat.{ℕ}
 use mathlib.Core.Path.{_≡_}
 use mathlib.Core.Bool.{cond, _&&_}

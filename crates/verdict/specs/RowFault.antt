@@ -10,10 +10,11 @@ use lib.Dec.{T, eqb}
 use borrow.Author.Tests.{eqb-false}
 use Rattle.game.specs.Value.{Value, fin, ever, leV, eqV, _⊕_}
 use Rattle.game.specs.ValueLaws.{eqV-sound}
-use Rattle.game.specs.Arena.{Arena, Move, Owner, controller, environment, ownerAt, unsafe}
+use Rattle.game.specs.Arena.{Arena, Move, Owner, controller, environment, nobody, ownerAt, unsafe}
 use Rattle.game.specs.Play.{disturbanceCost, targetOf}
 use Rattle.game.specs.Table.{someMove, everyMove, meantFrom, disturbanceFrom}
 use Rattle.game.specs.Fault.{earlier, unsafeZero, dashed, legalAs, meantHold, disturbancesHold, holds, meantRuin, disturbanceRuins, ruined, faultAt}
+use Rattle.game.specs.MoveTests.{none-at-rest}
 use Rattle.rows.specs.Rows.{RowsOf, ownerNumber}
 use Rattle.rows.specs.NumberLaws.{ever-number, finite-number, same-values}
 use Rattle.conditions.specs.Position.{afterMoves, beforeMoves, isController}
@@ -63,7 +64,7 @@ faultShape u z e d legal holds ruined =
     (cond (not holds) 4
     (cond (not ((u || e) || ruined)) 5 0))))
 
--- condition 3, before the moves at L and after them at O, and then what is left
+-- condition 3, after the moves at O and before them elsewhere, and then what is left
 third : (o c chosen legal : Bool) (x y : ℕ) → cond o chosen c ≡ legal → (legal ≡ true → x ≡ y)
     → cond (eqb (cond (not o && not c) 3 0) 0) (cond (o && not chosen) 3 x) (cond (not o && not c) 3 0) ≡ cond (not legal) 3 y
 third true c true legal x y l f = rw (← l) (f (sym l))
@@ -150,13 +151,14 @@ module _ (a : Arena) (n m : ℕ) (s : Sheet) (d : RowsOf a n m (s .owners) (s .m
   unfolding legalAs
   legal-is controller = chosen-is
   legal-is environment = refl
+  legal-is nobody = refl
 
   -- where the choice is legal, no meant target is low exactly where they hold
-  meant-hold-is : (o : Owner) → legalAs a (valueAt s) (choiceAt s) (stepAt s) o v ≡ true
+  meant-hold-is : (o : Owner) → ownerAt a v ≡ o → legalAs a (valueAt s) (choiceAt s) (stepAt s) o v ≡ true
       → someMeant a v (λ w. (not (eqb (ownerNumber o) 0) || eqV (choiceAt s v) (fin w)) && not (leV (valueAt s v) (valueAt s w)))
       ≡ not (meantHold a (valueAt s) (choiceAt s) (stepAt s) o v)
   unfolding legalAs meantHold targetOf
-  meant-hold-is controller legal =
+  meant-hold-is controller own legal =
       (λ i. someMove (λ x. choice-same x i) (a .moves))
       ∙ rw (some-and (λ x. meantFrom v x && eqV (choiceAt s v) (fin (x .to))) (not kept) (a .moves), legal)
     where
@@ -171,14 +173,15 @@ module _ (a : Arena) (n m : ℕ) (s : Sheet) (d : RowsOf a n m (s .owners) (s .m
           with-test true true is = ap (λ (c : Value). not (leV (valueAt s v) (valueAt s (targetOf c)))) (sym (is refl))
           with-test true false is = refl
           with-test false q is = refl
-  meant-hold-is environment legal = some-fails (meantFrom v) (λ x. leV (valueAt s v) (valueAt s (x .to))) (a .moves)
+  meant-hold-is environment own legal = some-fails (meantFrom v) (λ x. leV (valueAt s v) (valueAt s (x .to))) (a .moves)
+  meant-hold-is nobody own legal = none-at-rest a (d .well) v own (λ w. not (leV (valueAt s v) (valueAt s w)))
 
   holding-is : legalAs a (valueAt s) (choiceAt s) (stepAt s) (ownerAt a v) v ≡ true
       → someShows (λ x. x .low) s m v ≡ not (holds a (valueAt s) (choiceAt s) (stepAt s) v)
   unfolding holds disturbancesHold
   holding-is legal =
       low-is (ownerAt a v) refl
-      ∙ rw (some-fails (disturbanceFrom v) (λ x. leV (valueAt s v) (valueAt s (x .to) ⊕ disturbanceCost a v (x .to))) (a .moves), meant-hold-is (ownerAt a v) legal)
+      ∙ rw (some-fails (disturbanceFrom v) (λ x. leV (valueAt s v) (valueAt s (x .to) ⊕ disturbanceCost a v (x .to))) (a .moves), meant-hold-is (ownerAt a v) refl legal)
       (go _ (meantHold a (valueAt s) (choiceAt s) (stepAt s) (ownerAt a v) v))
     where
       go : (b c : Bool) → (not b || not c) ≡ not (c && b)
@@ -201,6 +204,7 @@ module _ (a : Arena) (n m : ℕ) (s : Sheet) (d : RowsOf a n m (s .owners) (s .m
         Bool·not-not (everyMove (λ x. not (meantFrom v x) || before (x .to)) (a .moves)),
       )
   ruined-is environment own finite = rw (ruin-is environment own finite, or-false)
+  ruined-is nobody own finite = rw (ruin-is nobody own finite, none-at-rest a (d .well) v own before, or-false, or-false)
 
   -- the code's tests at v are those of the arena, save what the moves show
   row-shape :

@@ -7,7 +7,7 @@ use lib.Dec.{T, T-not}
 use mathlib.Core.List.{List, [], _∷_, List·Memᴰ, List·Memᴰ·head, List·Memᴰ·tail}
 use Rattle.rows.specs.Numbers.{Agree}
 use Rattle.game.specs.Value.{Value, fin, ever, leV, eqV, _⊕_}
-use Rattle.game.specs.Arena.{Arena, Move, Owner, controller, environment, WellFormed, ownerAt, size, unsafe}
+use Rattle.game.specs.Arena.{Arena, Move, Owner, controller, environment, nobody, WellFormed, ownerAt, size, unsafe}
 use Rattle.game.specs.Play.{disturbanceCost, targetOf}
 use Rattle.game.specs.Table.{someMove, everyMove, meantFrom, disturbanceFrom}
 use Rattle.game.specs.Fault.{earlier, unsafeZero, dashed, legalAs, meantHold, disturbancesHold, holds, meantRuin, disturbanceRuins, ruined, faultAt}
@@ -45,6 +45,7 @@ module _ (a : Arena) (well : WellFormed a) (value value′ choice choice′ step
     unfolding legalAs
     legal-same controller = λ i. someMove (λ m. meantFrom v m && eqV (choices v inside i) (fin (m .to))) (a .moves)
     legal-same environment = λ i. eqV (choices v inside i) ever
+    legal-same nobody = λ i. eqV (choices v inside i) ever
 
     -- a test of every target of a kind of v's moves
     every-same : (of : Move → Bool) (q q′ : ℕ → Bool) → ((w : ℕ) → w < size a → q w ≡ q′ w)
@@ -57,6 +58,7 @@ module _ (a : Arena) (well : WellFormed a) (value value′ choice choice′ step
     meant-hold-same controller =
         at-most-same (targetOf (choice v)) (targets v inside) ∙ ap (λ (x : Value). leV (value′ v) (value′ (targetOf x))) (choices v inside)
     meant-hold-same environment = every-same (meantFrom v) (λ w. leV (value v) (value w)) (λ w. leV (value′ v) (value′ w)) at-most-same
+    meant-hold-same nobody = refl
 
     disturbances-hold-same : disturbancesHold a value choice step v ≡ disturbancesHold a value′ choice′ step′ v
     unfolding disturbancesHold
@@ -70,6 +72,7 @@ module _ (a : Arena) (well : WellFormed a) (value value′ choice choice′ step
         every-same (meantFrom v) (λ w. earlier a value choice step w v) (λ w. earlier a value′ choice′ step′ w v) (λ w l. earlier-same w v l inside)
     meant-ruin-same environment =
         some-same (λ m b. meantFrom v m && b) (λ w. earlier a value choice step w v) (λ w. earlier a value′ choice′ step′ w v) (λ w l. earlier-same w v l inside)
+    meant-ruin-same nobody = refl
 
     disturbance-ruins-same : disturbanceRuins a value choice step v ≡ disturbanceRuins a value′ choice′ step′ v
     unfolding disturbanceRuins

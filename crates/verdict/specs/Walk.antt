@@ -86,7 +86,7 @@ module _ {m : ℕ} {s : Sheet} {v i : ℕ} {seen : Seen} (w : Walking m s v i se
         late = one (λ j. shown (lineAt s v) (targetAt s j) .late) x;
       }
 
-  -- at L, where 3 holds already, a target below what holding asks is a breach of 4
+  -- elsewhere than at O, where 3 holds already, a target below what holding asks is a breach of 4
   pub low-fault : i ≤ m → isController (lineAt s v) ≡ false → seen .low ≡ true → rowFault m s v ≡ 4
   unfolding afterMoves seenBelow
   low-fault l o h = fault-after ∙ rw (o, found-more (numberAt (s .froms)) (λ j. shown (lineAt s v) (targetAt s j) .low) v i m l (sym (ap (λ (x : Seen). x .low) (w .shows)) ∙ h))

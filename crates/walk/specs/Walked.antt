@@ -5,12 +5,13 @@ use mathlib.Core.Path.{_≡_}
 use mathlib.Core.Bool.{Bool, true, cond}
 use mathlib.Core.Logic.{_⊎_}
 use mathlib.Core.List.{List}
-use lib.ListN.{length}
+use lib.ListN.{length, getD}
 use lib.Dec.{eqb}
 use Rattle.field.specs.declared.Field.the-variants.{Number}
 use Rattle.rows.specs.Rows.{RowIs, Kept, ownerNumber}
 use Rattle.chart.specs.Text.{letterAt}
 use Rattle.chart.specs.Meaning.{ownerOf}
+use Rattle.chart.specs.Refusals.{MoveLetter}
 use Rattle.chart.specs.Examined.{meantIn, examined}
 use Rattle.chart.specs.Good.{GoodPosition, GoodMove}
 use Rattle.chart.specs.Lines.{Reads}
@@ -26,6 +27,10 @@ pub record LineWords (text : List ℕ) (at letter first second : ℕ) : Type 0 w
   pub middle : WordIs text (at + 4) (first / 256 + 538968064)
   pub closing : WordIs text (at + 8) (second + 167772160)
 
+-- the letter of an owner's number
+unfoldable pub letterOf : ℕ → ℕ
+letterOf owner = cond (eqb owner 1) 76 (cond (eqb owner 2) 82 79)
+
 -- the last three bytes of a mark as a word, by the last of them: where that is a space, three spaces
 unfoldable pub markWord : ℕ → ℕ
 markWord last = cond (eqb last 32) 2105376 (spelt (last % 2))
@@ -38,14 +43,15 @@ pub record Tables (text : List ℕ) (n : ℕ) (words owners : List ℕ) : Type 0
   pub words-row : n ≤ length words
   pub owners-row : n ≤ length owners
 
--- a line with a move between two positions, disturbed only where the controller moves
+-- a line with a move between two positions: no disturbance of an `L`, no meant move of an `R`
 pub record MoveStands (text : List ℕ) (n line from to : ℕ) : Type 0 where
   pub from-position : from < n
   pub to-position : to < n
   pub letter : ℕ
   pub reads : Reads text line letter from (Number to)
-  pub allowed : (letter ≡ 77) ⊎ (letter ≡ 68)
+  pub allowed : MoveLetter letter
   pub undisturbed : letter ≡ 68 → letterAt text (from + 1) ≡ 76 → ⊥
+  pub unmeant : letter ≡ 77 → letterAt text (from + 1) ≡ 82 → ⊥
 
 -- every position line is good, and its numbers are in the rows
 pub record PositionsPassed (text : List ℕ) (n : ℕ) (owners₀ owners marks₀ marks : List ℕ) : Type 0 where
@@ -57,10 +63,26 @@ pub record PositionsWalked (text : List ℕ) (n : ℕ) (passed : Bool) (owners�
   pub owners-kept : Kept n owners₀ owners
   pub marks-kept : Kept n marks₀ marks
 
--- every move line is good, every position has a meant move, and the moves are in the rows
+-- the first of n positions from v on that is none of rest: those before it are, and it is not unless there is none
+pub record NextDue (owners : List ℕ) (n v due : ℕ) : Type 0 where
+  pub low : v ≤ due
+  pub high : due ≤ n
+  pub resting : (u : ℕ) → v ≤ u → u < due → getD owners u 0 ≡ 2
+  pub needs : due < n → getD owners due 0 ≡ 2 → ⊥
+
+-- a row with the first of them from each position on, and from n on
+pub record Dues (owners : List ℕ) (n : ℕ) (dues : List ℕ) : Type 0 where
+  pub due : (v : ℕ) → v ≤ n → NextDue owners n v (getD dues v 0)
+  pub dues-row : n < length dues
+
+-- its number at v, by the owner of v and the number after it
+unfoldable pub dueAt : ℕ → ℕ → ℕ → ℕ
+dueAt owner v next = cond (eqb owner 2) next v
+
+-- every move line is good, every position but an `R` (82) has a meant move, and the moves are in the rows
 pub record MovesPassed (text : List ℕ) (n m : ℕ) (costs₀ costs froms₀ froms tos₀ tos : List ℕ) : Type 0 where
   pub good : (i : ℕ) → i < m → GoodMove text n (n + 1 + i)
-  pub meant : (v : ℕ) → v < n → meantIn text n m v ≡ true
+  pub meant : (v : ℕ) → v < n → (letterAt text (v + 1) ≡ 82 → ⊥) → meantIn text n m v ≡ true
   pub rows : MoveRows text (n + 1) m costs₀ costs froms₀ froms tos₀ tos
 
 pub record MovesWalked (text : List ℕ) (n m : ℕ) (passed : Bool) (costs₀ costs froms₀ froms tos₀ tos : List ℕ) : Type 0 where

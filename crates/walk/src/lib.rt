@@ -8,7 +8,7 @@ ghost use Rattle.rows.specs.Rows.{RowIs, ownerNumber};
 ghost use Rattle.chart.specs.Meaning.{ownerOf};
 ghost use Rattle.chart.specs.Examined.{headerOf};
 ghost use Rattle.spelling.specs.Words.{spelt};
-ghost use Rattle.walk.specs.Walked.{markWord, LineWords, Tables, MoveStands, PositionsWalked, MovesWalked, WalkIs};
+ghost use Rattle.walk.specs.Walked.{letterOf, markWord, LineWords, Tables, MoveStands, PositionsWalked, dueAt, Dues, MovesWalked, WalkIs};
 use chart::Examination;
 use chart::cost;
 use rows::Chart;
@@ -39,10 +39,12 @@ pub fn walk(
     if !walk_positions(text, n, &words, owners, marks) {
         return false;
     }
-    walk_moves(text, n, m, &words, owners, costs, froms, tos)
+    let mut dues = [0u16; Chart::POSITIONS + 1];
+    find_dues(owners, n, &mut dues);
+    walk_moves(text, n, m, &words, owners, &dues, costs, froms, tos)
 }
 
-// The position lines: the letter O (79) or L (76), the number in order, the mark 0, 1 or blank. A space's last bit is 0, as a blank mark is.
+// The position lines: the letter O, L or R, the number in order, the mark 0, 1 or blank. A space's last bit is 0, as a blank mark is.
 fn walk_positions(text: &[u8], n: usize, words: &[u32], owners: &mut [u8], marks: &mut [u8]) -> bool
     requires { ⌜ (n ≤ 512) × ((n + 1) * 12 ≤ length (now text)) ⌝ }
     requires { ⌜ RowIs (now words) n spelt × (n ≤ length (now words)) ⌝ }
@@ -54,7 +56,7 @@ fn walk_positions(text: &[u8], n: usize, words: &[u32], owners: &mut [u8], marks
         let at = (v + 1) * Chart::LINE;
         let owner = owner(text[at]);
         let last = text[at + 10];
-        if !line_is(text, at, 79 - 3 * owner as u32, words[v], mark_word(last)) {
+        if !line_is(text, at, letter_of(owner), words[v], mark_word(last)) {
             return false;
         }
         owners[v] = owner;
@@ -62,6 +64,16 @@ fn walk_positions(text: &[u8], n: usize, words: &[u32], owners: &mut [u8], marks
         v += 1;
     }
     true
+}
+
+// The letter of an owner: O (79), L (76) or R (82).
+fn letter_of(owner: u8) -> u32
+    ensures { λ r. ⌜ r ≡ letterOf owner ⌝ }
+{
+    if owner == 1 {
+        return 76;
+    }
+    if owner == 2 { 82 } else { 79 }
 }
 
 // The last three bytes of a mark as a word, by the last of them: spaces, or the spelling of 0 or 1.
@@ -74,26 +86,48 @@ fn mark_word(last: u8) -> u32
     spell((last % 2) as usize)
 }
 
-// The move lines. Moves rise where their ranks do, which have from above cost above to. A rank stays below `limit`, where the disturbances
-// of the position after the last line's begin: so each line is from the last line's position or is a meant move from the next one, and no
-// position is left without a meant move.
+// For each of n positions, and for n, the lowest from it on that is none of rest; n where there is none.
+fn find_dues(owners: &[u8], n: usize, dues: &mut [u16])
+    requires { ⌜ (n ≤ 512) × (n ≤ length (now owners)) × (n < length (now dues)) ⌝ }
+    ensures { λ _. ⌜ Dues (now (owners .entry)) n (now (dues .exit)) ⌝ }
+{
+    dues[n] = n as u16;
+    let mut v = n;
+    while 0 < v {
+        v -= 1;
+        dues[v] = due_at(owners[v], v as u16, dues[v + 1]);
+    }
+}
+
+// A position of rest (2) needs no meant move.
+fn due_at(owner: u8, v: u16, next: u16) -> u16
+    ensures { λ r. ⌜ r ≡ dueAt owner v next ⌝ }
+{
+    if owner == 2 { next } else { v }
+}
+
+// The move lines. Moves rise where their ranks do, which have from above cost above to. `due` is the lowest position, none of rest, after the
+// last line's. A rank stays below where its disturbances begin: so each line is from a lower position or is the meant move that is due, and
+// with none due at the end no position that needs a meant move is without one.
 fn walk_moves(
     text: &[u8],
     n: usize,
     m: usize,
     words: &[u32],
     owners: &[u8],
+    dues: &[u16],
     costs: &mut [u8],
     froms: &mut [u16],
     tos: &mut [u16],
 ) -> bool
     requires { ⌜ Tables (now text) n (now words) (now owners) ⌝ }
+    requires { ⌜ Dues (now owners) n (now dues) ⌝ }
     requires { ⌜ (m ≤ 4096) × ((n + 1 + m) * 12 ≤ length (now text)) ⌝ }
     requires { ⌜ (m ≤ length (now costs)) × (m ≤ length (now froms)) × (m ≤ length (now tos)) ⌝ }
     ensures { λ r. ⌜ MovesWalked (now (text .entry)) n m r (now (costs .entry)) (now (costs .exit)) (now (froms .entry)) (now (froms .exit)) (now (tos .entry)) (now (tos .exit)) ⌝ }
 {
     let mut lowest: usize = 0;
-    let mut limit: usize = 512;
+    let mut due = dues[0] as usize;
     let mut i: usize = 0;
     while i < m {
         let line = n + 1 + i;
@@ -108,20 +142,21 @@ fn walk_moves(
         if rank < lowest {
             return false;
         }
-        if limit <= rank {
+        if due * 1024 + 512 <= rank {
             return false;
         }
         costs[i] = cost;
         froms[i] = from as u16;
         tos[i] = to as u16;
         lowest = rank + 1;
-        limit = from * 1024 + 1536;
+        due = dues[from + 1] as usize;
         i += 1;
     }
-    limit == n * 1024 + 512
+    due == n
 }
 
-// Whether a line is a move, M (77) or D (68), between these two numbers that may stand in a chart, its order aside.
+// Whether a line is a move, M (77) or D (68), between these two numbers that may stand in a chart, its order aside. Only a disturbance (1)
+// of an L (1) and a meant move (0) of an R (2) have the sum 2, and they are those that may not.
 fn move_is(
     text: &[u8],
     n: usize,
@@ -143,7 +178,7 @@ fn move_is(
     }
     let at = line * Chart::LINE;
     let cost = cost(text[at]);
-    if 1 < cost + owners[from] {
+    if cost + owners[from] == 2 {
         return false;
     }
     line_is(text, at, 77 - 9 * cost as u32, words[from], words[to])
@@ -185,9 +220,12 @@ fn guess(c: u32, d: u32, e: u32) -> usize {
     (c % 16 * 100 + d % 16 * 10 + e % 16) as usize
 }
 
-// The controller is 0, the environment 1.
+// The controller is 0, the environment 1, nobody 2.
 pub fn owner(letter: u8) -> u8
     ensures { λ r. ⌜ r ≡ ownerNumber (ownerOf letter) ⌝ }
 {
-    if letter == b'L' { 1 } else { 0 }
+    if letter == b'L' {
+        return 1;
+    }
+    if letter == b'R' { 2 } else { 0 }
 }

@@ -1,5 +1,5 @@
 -- Weighing (document 01, "The jobs"): "a chart and a row of choices (its first n numbers) into a row of worths: at each
--- position the worth .. of the positional controller that makes these choices", and refusals 1 to 9, 10 and 12.
+-- position the worth .. of the positional controller that makes these choices", and refusals 1 to 9 and 17, 10 and 12.
 use Prim.Native.Nat.{ℕ, _<_}
 use mathlib.Core.Path.{_≡_}
 use mathlib.Core.Bool.{Bool, true, false, cond, not, _&&_}
@@ -25,7 +25,7 @@ use Rattle.refusal.specs.declared.Refusal.{Refusal}
 use Rattle.refusal.specs.declared.Refusal.the-variants.{Chart as OfChart, Short, Choice}
 use Rattle.weighing.specs.declared.Weighed.the-variants.{Done, Refused as Turned}
 
--- each choice of the first n positions is a meant target at O, 65,535 at L: the test of condition 3, which looks at no
+-- each choice of the first n positions is a meant target at O, 65,535 at L and R: the test of condition 3, which looks at no
 -- value and no step
 unfoldable pub legalRow : Arena → (ℕ → Value) → ℕ → Bool
 legalRow a choice n = not (someBelow (λ v. not (legalAs a choice choice choice (ownerAt a v) v)) n)

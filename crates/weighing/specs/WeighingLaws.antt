@@ -16,7 +16,7 @@ use Rattle.rows.specs.Notes.{Noted}
 use Rattle.rows.specs.Copies.{CopyOf, kept-count, kept-column}
 use Rattle.search.specs.Below.{someBelow, some-same, some-hit, some-none, bit, bit-one}
 use Rattle.game.specs.Value.{Value, fin, eqV}
-use Rattle.game.specs.Arena.{Arena, Move, Owner, controller, environment, WellFormed, size, ownerAt, moveAt}
+use Rattle.game.specs.Arena.{Arena, Move, Owner, controller, environment, nobody, WellFormed, size, ownerAt, moveAt}
 use Rattle.game.specs.Play.{Legal, LegalAt, positional}
 use Rattle.game.specs.Worth.{WorthIs}
 use Rattle.game.specs.Restrict.{stays, restricted}
@@ -115,6 +115,7 @@ module _ (a : Arena) (n m : ℕ) (owners marks costs froms tos choices : List �
           → cond (eqb (ownerNumber o) 0) (eqb (getD flags v 0) 1) (eqb (getD choices v 0) 65535) ≡ legalAs a choice choice choice o v
       go controller own = rw (noted .notes v l) (bit-one _ ∙ lines-of a n m owners marks costs froms tos d v (isChosen costs froms tos choices) into same other)
       go environment own = sym (ever-number (getD choices v 0))
+      go nobody own = sym (ever-number (getD choices v 0))
 
   pub legal-row-is : (flags : List ℕ) → Noted n (numberAt froms) (isChosen costs froms tos choices) (λ v. bit) m flags
       → not (someBelow (λ v. not (isLegal owners choices flags v)) n) ≡ legalRow a choice n

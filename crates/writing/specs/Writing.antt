@@ -1,5 +1,5 @@
 -- Writing (document 01, "The jobs"): "a chart into a plate, its length answered .. What lies past the last line or number stays",
--- and refusals 1 to 9, then 10.
+-- and refusals 1 to 9 and 17, then 10.
 use Prim.Native.Nat.{ℕ, _+_, _*_}
 use mathlib.Core.Path.{_≡_}
 use mathlib.Core.Bool.{cond}

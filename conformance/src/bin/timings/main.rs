@@ -6,7 +6,9 @@ use conformance::chart::{Chart, Owner, Position, MOVES, POSITIONS};
 use conformance::measure::{stack, times};
 use conformance::model::Subject;
 use conformance::random::Random;
-use conformance::shapes::{all_good, blocks, console_chain, drawn, filled, lane_chain, Reach, Shape};
+use conformance::shapes::{
+    all_good, blocks, console_chain, drawn, filled, lane_chain, rest_chain, rested, Reach, Shape,
+};
 use conformance::solver;
 use conformance::stacks::stacks;
 use std::hint::black_box;
@@ -100,6 +102,13 @@ fn shaped(n: usize, moves: usize, shape: Shape) -> Chart {
     filled(drawn(&mut Random::new(7), n, shape), moves, |_, _, _| true)
 }
 
+/// An even mix with a third of the positions at rest.
+fn third_at_rest() -> Chart {
+    let mut random = Random::new(7);
+    let chart = drawn(&mut random, POSITIONS, EVEN);
+    filled(rested(&mut random, chart, 33), MOVES, |_, _, _| true)
+}
+
 /// Each position with so many meant moves and, at O, so many disturbances, to different targets drawn at random.
 fn dense(n: usize, meant: usize, disturbances: usize) -> Chart {
     let mut random = Random::new(11);
@@ -136,6 +145,8 @@ fn kinds() -> Vec<(&'static str, Chart)> {
         ("512 values", blocks(POSITIONS, MOVES, 1)),
         ("32 values, 16 steps each", blocks(POSITIONS, MOVES, 16)),
         ("all moves good", all_good(POSITIONS, MOVES)),
+        ("random, a third at rest", third_at_rest()),
+        ("512 values, all at rest", rest_chain(POSITIONS, MOVES)),
         ("64 positions, 64 meant each", dense(64, 64, 0)),
         ("64 positions, 32 and 32 each", dense(64, 32, 32)),
     ]

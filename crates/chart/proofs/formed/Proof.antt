@@ -1,5 +1,4 @@
--- `chart::formed` meets its contract: the tests of the letter say which case of `formed` holds.
-use Rattle.search.proofs.Cases.{cases}
+-- `chart::formed` meets its contract: the answer of the letter's test says which case of `formed` holds.
 use Rattle.chart.specs.Examined.{formed}
 use borrow.Author.Needs.{needs}
 use Rattle.chart.proofs.formed.Statement.{statement}
@@ -10,19 +9,11 @@ numbered-requires c κs = search needs
 
 returns : tie.Need-returns
 unfolding formed
-returns c = search cases
-
-numbered-requires-2 : tie.Need-numbered-requires-2
-numbered-requires-2 c κs = search needs
+returns c = simp (c .before .if1 .taken, c .numbered .ensures)
 
 returns-2 : tie.Need-returns-2
 unfolding formed
-returns-2 c = search cases
-
-returns-3 : tie.Need-returns-3
-unfolding formed
-returns-3 c = search cases
+returns-2 c = simp (c .if1 .left)
 
 pub formed-spec : {M : Type 1} → statement M
-formed-spec =
-    tie.close (tie.spec numbered-requires returns numbered-requires-2 returns-2 returns-3)
+formed-spec = tie.close (tie.spec numbered-requires returns returns-2)

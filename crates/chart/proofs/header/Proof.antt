@@ -9,6 +9,9 @@ use Rattle.chart.proofs.header.Tie as tie
 row-at-requires : tie.Need-row-at-requires
 row-at-requires c κs = search needs
 
+header-letter-requires : tie.Need-header-letter-requires
+header-letter-requires c κs = search needs
+
 formed-requires : tie.Need-formed-requires
 formed-requires c κs = search needs
 
@@ -23,8 +26,8 @@ limits-requires c κs = search needs
 
 returns : tie.Need-returns
 unfolding headerOf headerFormed positionsOf movesOf rowAt
-returns c = simp (c .limits .ensures, c .before .number2 .ensures, c .before .before .number .ensures, c .before .before .before .formed .ensures, c .before .before .before .before .row-at .ensures)
+returns c = simp (c .limits .ensures, c .before .number2 .ensures, c .before .before .number .ensures, c .before .before .before .formed .ensures, c .before .before .before .before .header-letter .ensures, c .before .before .before .before .before .row-at .ensures)
 
 pub header-spec : {M : Type 1} → statement M
 header-spec =
-    tie.close (tie.spec row-at-requires formed-requires number-requires number-requires-2 limits-requires returns)
+    tie.close (tie.spec row-at-requires header-letter-requires formed-requires number-requires number-requires-2 limits-requires returns)

@@ -18,33 +18,13 @@ returns-3 : tie.Need-returns-3
 unfolding judgedMove
 returns-3 c = simp (not-false (c .before .before .before .args .ok) (c .before .before .if1 .left)) (search cases)
 
+judge-owner-requires : tie.Need-judge-owner-requires
+judge-owner-requires c κs = search needs
+
 returns-4 : tie.Need-returns-4
 unfolding judgedMove
-returns-4 c = simp (not-false (c .before .before .before .before .before .args .ok) (c .before .before .before .before .if1 .left)) (search cases)
-
-judge-order-requires : tie.Need-judge-order-requires
-judge-order-requires c κs = search needs
-
-returns-5 : tie.Need-returns-5
-unfolding judgedMove
-returns-5 c = simp (not-false (c .before .before .before .before .before .before .args .ok) (c .before .before .before .before .before .if1 .left)) (search cases)
-
-judge-order-requires-2 : tie.Need-judge-order-requires-2
-judge-order-requires-2 c κs = search needs
-
-returns-6 : tie.Need-returns-6
-unfolding judgedMove
-returns-6 c = simp (not-false (c .before .before .before .before .before .args .ok) (c .before .before .before .before .if1 .left)) (search cases)
+returns-4 c = simp (not-false (c .before .before .before .before .args .ok) (c .before .before .before .if1 .left)) (search cases)
 
 pub judge-move-spec : {M : Type 1} → statement M
 judge-move-spec =
-    tie.close
-    (tie.spec
-    returns
-    returns-2
-    returns-3
-    returns-4
-    judge-order-requires
-    returns-5
-    judge-order-requires-2
-    returns-6)
+    tie.close (tie.spec returns returns-2 returns-3 judge-owner-requires returns-4)

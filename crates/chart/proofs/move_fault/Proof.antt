@@ -8,6 +8,9 @@ use borrow.Author.Needs.{needs}
 use Rattle.chart.proofs.move_fault.Statement.{statement}
 use Rattle.chart.proofs.move_fault.Tie as tie
 
+move-letter-requires : tie.Need-move-letter-requires
+move-letter-requires c κs = search needs
+
 formed-requires : tie.Need-formed-requires
 formed-requires c κs = search needs
 
@@ -20,13 +23,13 @@ number-requires-2 c κs = search needs
 add-letter-at : tie.Need-add-letter-at
 unfolding rowAt fromAt
 add-letter-at c =
-    let small : c .before .number .result ≤ 99999 = rw (c .before .number .ensures, c .before .before .before .before .pre .1 .0) (from-small _ _) in
+    let small : c .before .number .result ≤ 99999 = rw (c .before .number .ensures, c .before .before .before .before .before .pre .1 .0) (from-small _ _) in
     omega arith
 
 letter-at-requires : tie.Need-letter-at-requires
 unfolding rowAt fromAt
 letter-at-requires c κs =
-    let small : c .before .number .result ≤ 99999 = rw (c .before .number .ensures, c .before .before .before .before .pre .1 .0) (from-small _ _) in
+    let small : c .before .number .result ≤ 99999 = rw (c .before .number .ensures, c .before .before .before .before .before .pre .1 .0) (from-small _ _) in
     omega arith
 
 cost-requires : tie.Need-cost-requires
@@ -40,12 +43,13 @@ judge-move-requires c κs = search needs
 
 returns : tie.Need-returns
 unfolding moveFinding moveFormed rises rowAt fromAt toAt
-returns c = simp (c .judge-move .ensures, c .before .rise .ensures, c .before .before .cost .ensures, c .before .before .before .letter-at .ensures, c .before .before .before .before .number2 .ensures, c .before .before .before .before .before .number .ensures, c .before .before .before .before .before .before .formed .ensures, c .before .before .before .before .before .before .before .before .pre .1 .0, c .before .before .before .before .before .before .before .before .pre .1 .1)
+returns c = simp (c .judge-move .ensures, c .before .rise .ensures, c .before .before .cost .ensures, c .before .before .before .letter-at .ensures, c .before .before .before .before .number2 .ensures, c .before .before .before .before .before .number .ensures, c .before .before .before .before .before .before .formed .ensures, c .before .before .before .before .before .before .before .move-letter .ensures, c .before .before .before .before .before .before .before .before .before .pre .1 .0, c .before .before .before .before .before .before .before .before .before .pre .1 .1)
 
 pub move-fault-spec : {M : Type 1} → statement M
 move-fault-spec =
     tie.close
     (tie.spec
+    move-letter-requires
     formed-requires
     number-requires
     number-requires-2

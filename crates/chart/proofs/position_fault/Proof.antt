@@ -7,6 +7,9 @@ use Rattle.chart.proofs.position_fault.Tie as tie
 mark-requires : tie.Need-mark-requires
 mark-requires c κs = search needs
 
+position-letter-requires : tie.Need-position-letter-requires
+position-letter-requires c κs = search needs
+
 formed-requires : tie.Need-formed-requires
 formed-requires c κs = search needs
 
@@ -21,8 +24,8 @@ judge-position-requires c κs = search needs
 
 returns : tie.Need-returns
 unfolding positionRowFinding
-returns c = simp (c .judge-position .ensures, c .before .number2 .ensures, c .before .before .number .ensures, c .before .before .before .formed .ensures, c .before .before .before .before .mark .ensures)
+returns c = simp (c .judge-position .ensures, c .before .number2 .ensures, c .before .before .number .ensures, c .before .before .before .formed .ensures, c .before .before .before .before .position-letter .ensures, c .before .before .before .before .before .mark .ensures)
 
 pub position-fault-spec : {M : Type 1} → statement M
 position-fault-spec =
-    tie.close (tie.spec mark-requires formed-requires number-requires number-requires-2 judge-position-requires returns)
+    tie.close (tie.spec mark-requires position-letter-requires formed-requires number-requires number-requires-2 judge-position-requires returns)

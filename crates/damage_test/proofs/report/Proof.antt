@@ -40,6 +40,12 @@ loop-again c = search needs
 write-all-requires-2 : tie.Need-write-all-requires-2 Inv-loop μ-loop
 write-all-requires-2 c κs = search needs
 
+element-copy-out-report-resting : tie.Need-element-copy-out-report-resting Inv-loop μ-loop
+element-copy-out-report-resting c = search needs
+
+report-resting-requires : tie.Need-report-resting-requires Inv-loop μ-loop
+report-resting-requires c κs = search needs
+
 slice-aggregate-write-all-2 : tie.Need-slice-aggregate-write-all-2 Inv-loop μ-loop
 slice-aggregate-write-all-2 c = search needs
 
@@ -65,6 +71,8 @@ report-spec =
     loop-less
     loop-again
     write-all-requires-2
+    element-copy-out-report-resting
+    report-resting-requires
     slice-aggregate-write-all-2
     write-all-requires-3
     returns)

@@ -5,10 +5,10 @@ use Rattle.damage_test.proofs.some.Statement.{statement}
 use Rattle.damage_test.proofs.some.Tie as tie
 
 abbrev Inv-loop : tie.InvT-loop
-Inv-loop name kind charts tally₀ seed₀ i₀ tally seed i = i ≤ charts
+Inv-loop name kind charts rests tally₀ seed₀ i₀ tally seed i = i ≤ charts
 
 abbrev μ-loop : tie.MeasureT-loop
-μ-loop name kind charts tally₀ seed₀ i₀ tally seed i = charts - i
+μ-loop name kind charts rests tally₀ seed₀ i₀ tally seed i = charts - i
 
 loop-holds : tie.Need-loop-holds Inv-loop μ-loop
 loop-holds c = search needs

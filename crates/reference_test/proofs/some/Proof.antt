@@ -5,10 +5,10 @@ use Rattle.reference_test.proofs.some.Statement.{statement}
 use Rattle.reference_test.proofs.some.Tie as tie
 
 abbrev Inv-loop : tie.InvT-loop
-Inv-loop name kind charts share tally₀ seed₀ blanks₀ i₀ t9 tally seed blanks i = i ≤ charts
+Inv-loop name kind charts share tally₀ seed₀ blanks₀ i₀ t9 t10 t11 tally seed blanks i = i ≤ charts
 
 abbrev μ-loop : tie.MeasureT-loop
-μ-loop name kind charts share tally₀ seed₀ blanks₀ i₀ t9 tally seed blanks i = charts - i
+μ-loop name kind charts share tally₀ seed₀ blanks₀ i₀ t9 t10 t11 tally seed blanks i = charts - i
 
 loop-holds : tie.Need-loop-holds Inv-loop μ-loop
 loop-holds c = search needs
@@ -31,11 +31,23 @@ report-requires c κs = search needs
 write-all-requires : tie.Need-write-all-requires Inv-loop μ-loop
 write-all-requires c κs = search needs
 
-array-read-report-blanks : tie.Need-array-read-report-blanks Inv-loop μ-loop
-array-read-report-blanks c = search needs
+slice-aggregate-report-count : tie.Need-slice-aggregate-report-count Inv-loop μ-loop
+slice-aggregate-report-count c = search needs
 
-report-blanks-requires : tie.Need-report-blanks-requires Inv-loop μ-loop
-report-blanks-requires c κs = search needs
+array-read-report-count : tie.Need-array-read-report-count Inv-loop μ-loop
+array-read-report-count c = search needs
+
+report-count-requires : tie.Need-report-count-requires Inv-loop μ-loop
+report-count-requires c κs = search needs
+
+slice-aggregate-report-count-2 : tie.Need-slice-aggregate-report-count-2 Inv-loop μ-loop
+slice-aggregate-report-count-2 c = search needs
+
+array-read-report-count-2 : tie.Need-array-read-report-count-2 Inv-loop μ-loop
+array-read-report-count-2 c = search needs
+
+report-count-requires-2 : tie.Need-report-count-requires-2 Inv-loop μ-loop
+report-count-requires-2 c κs = search needs
 
 slice-aggregate-write-all : tie.Need-slice-aggregate-write-all Inv-loop μ-loop
 slice-aggregate-write-all c = search needs
@@ -59,8 +71,12 @@ some-spec =
     loop-again
     report-requires
     write-all-requires
-    array-read-report-blanks
-    report-blanks-requires
+    slice-aggregate-report-count
+    array-read-report-count
+    report-count-requires
+    slice-aggregate-report-count-2
+    array-read-report-count-2
+    report-count-requires-2
     slice-aggregate-write-all
     write-all-requires-2
     returns)

@@ -40,7 +40,7 @@ mul-line-is : tie.Need-mul-line-is
 mul-line-is c = search needs
 
 sub-line-is : tie.Need-sub-line-is
-sub-line-is c = search needs
+sub-line-is c = omega (arith, cost-fits _ _ (c .before .before .cost .ensures))
 
 mul-line-is-2 : tie.Need-mul-line-is-2
 mul-line-is-2 c = search needs

@@ -46,20 +46,33 @@ returns c =
       tos-kept = kept-same _ _;
     }
 
+slice-aggregate-find-dues : tie.Need-slice-aggregate-find-dues
+slice-aggregate-find-dues c = search needs
+
+find-dues-requires : tie.Need-find-dues-requires
+find-dues-requires c κs =
+    let start = c .before .before .before .before .before .before .before .before .before .before .before .before .before .before .before .before .before .before .before .before in
+    let fits = header-fits (now (start .args .text)) (start .args .chart) (start .pre .0) in
+    let wide = c .before .before .before .before .before .before .before .walk-positions .ensures .owners-kept .same-length in
+    (fits .positions, omega (arith, start .pre .1 .0 .0), omega arith)
+
 slice-aggregate-walk-moves : tie.Need-slice-aggregate-walk-moves
 slice-aggregate-walk-moves c = search needs
 
+slice-aggregate-walk-moves-2 : tie.Need-slice-aggregate-walk-moves-2
+slice-aggregate-walk-moves-2 c = search needs
+
 walk-moves-requires : tie.Need-walk-moves-requires
 walk-moves-requires c κs =
-    let start = c .before .before .before .before .before .before .before .before .before .before .before .before .before .before .before .before .before .before .before .before .before .before .before in
+    let start = c .before .before .before .before .before .before .before .before .before .before .before .before .before .before .before .before .before .before .before .before .before .before .before .before .before .before .before .before in
     let fits = header-fits (now (start .args .text)) (start .args .chart) (start .pre .0) in
-    let words = c .before .before .before .before .before .before .before .before .before .before .before .before .before .before .before .spell-all .ensures in
+    let words = c .before .before .before .before .before .before .before .before .before .before .before .before .before .before .before .before .before .before .before .before .spell-all .ensures in
     let long = words .same-length in
-    let owners = c .before .before .before .before .before .before .before .before .before .before .walk-positions .ensures .told (went-on _ (c .before .before .before .before .before .if1 .left)) .rows .owner in
+    let owners = c .before .before .before .before .before .before .before .before .before .before .before .before .before .before .before .walk-positions .ensures .told (went-on _ (c .before .before .before .before .before .before .before .before .before .before .if1 .left)) .rows .owner in
     let wide = owners .same-length in
     let rows = start .pre .1 .1 in (
       record { few = fits .positions; word = words .row; owner = owners .row; words-row = omega arith; owners-row = omega (arith, start .pre .1 .0 .0) },
-      ((fits .moves, omega arith), (omega (arith, rows .0), omega (arith, rows .1), omega (arith, rows .2))),
+      (c .before .before .before .before .before .before .before .find-dues .ensures, ((fits .moves, omega arith), (omega (arith, rows .0), omega (arith, rows .1), omega (arith, rows .2)))),
     )
 
 same-length-3 : tie.Need-same-length-3
@@ -79,11 +92,11 @@ same-length-7 c = search needs
 
 returns-2 : tie.Need-returns-2
 returns-2 c =
-    let start = c .before .before .before .before .before .before .before .before .before .before .before .before .before .before .before .before .before .before .before .before .before .before .before .before .before .before .before .before .before .before in
-    let positions = c .before .before .before .before .before .before .before .before .before .before .before .before .before .before .before .before .before .walk-positions .ensures in
+    let start = c .before .before .before .before .before .before .before .before .before .before .before .before .before .before .before .before .before .before .before .before .before .before .before .before .before .before .before .before .before .before .before .before .before .before .before in
+    let positions = c .before .before .before .before .before .before .before .before .before .before .before .before .before .before .before .before .before .before .before .before .before .before .walk-positions .ensures in
     let moves = c .before .before .before .before .before .before .walk-moves .ensures in
     record {
-      told = λ e. lines-pass _ _ _ _ _ _ _ _ _ _ _ _ (start .pre .0) (positions .told (went-on _ (c .before .before .before .before .before .before .before .before .before .before .before .before .if1 .left))) (moves .told e);
+      told = λ e. lines-pass _ _ _ _ _ _ _ _ _ _ _ _ (start .pre .0) (positions .told (went-on _ (c .before .before .before .before .before .before .before .before .before .before .before .before .before .before .before .before .before .if1 .left))) (moves .told e);
       owners-kept = positions .owners-kept;
       marks-kept = positions .marks-kept;
       costs-kept = moves .costs-kept;
@@ -102,7 +115,10 @@ walk-spec =
     same-length
     same-length-2
     returns
+    slice-aggregate-find-dues
+    find-dues-requires
     slice-aggregate-walk-moves
+    slice-aggregate-walk-moves-2
     walk-moves-requires
     same-length-3
     same-length-4

@@ -1,5 +1,5 @@
 -- `walk::walk_moves` meets its contract. The invariant: the first i lines are good, ranks below `lowest` are theirs, every position below
--- `limit` has a meant move, and the rows are filled up to i.
+-- `due` that is no `R` has a meant move, and the rows are filled up to i.
 use Prim.Native.Nat.{ℕ, _+_, _*_, _≤_, _-_}
 use native.Mathlib.Omega.{arith}
 use mathlib.Core.Path.{_≡_, sym, subst}
@@ -14,15 +14,25 @@ use Rattle.walk.proofs.walk_moves.Statement.{statement}
 use Rattle.walk.proofs.walk_moves.Tie as tie
 
 abbrev Inv-loop : tie.InvT-loop
-Inv-loop text n m words owners costs₀ froms₀ tos₀ lowest₀ limit₀ i₀ costs froms tos lowest limit i =
-    (i ≤ m) × SoFar text n i lowest limit × MoveRows text (n + 1) i costs₀ costs froms₀ froms tos₀ tos
+Inv-loop text n m words owners dues costs₀ froms₀ tos₀ lowest₀ due₀ i₀ costs froms tos lowest due i =
+    (i ≤ m) × SoFar text n i lowest due × MoveRows text (n + 1) i costs₀ costs froms₀ froms tos₀ tos
 
 abbrev μ-loop : tie.MeasureT-loop
-μ-loop text n m words owners costs₀ froms₀ tos₀ lowest₀ limit₀ i₀ costs froms tos lowest limit i =
+μ-loop text n m words owners dues costs₀ froms₀ tos₀ lowest₀ due₀ i₀ costs froms tos lowest due i =
     m - i
 
+shared-slice-read-due : tie.Need-shared-slice-read-due Inv-loop μ-loop
+shared-slice-read-due c = omega arith
+
+cast-due : tie.Need-cast-due Inv-loop μ-loop
+cast-due c =
+    let start = c .before .before .before .before .before .before .before .before in
+    omega (arith, start .pre .0 .few, start .pre .1 .0 .due 0 (omega arith) .high)
+
 loop-holds : tie.Need-loop-holds Inv-loop μ-loop
-loop-holds c = (omega arith, so-far-none _ _, record { cost = filled-none _ _; from = filled-none _ _; to = filled-none _ _ })
+loop-holds c =
+    let start = c .before .before .before .before .before .before .before .before in
+    (omega arith, so-far-none _ _ _ _ _ (start .pre .0) (start .pre .1 .0 .due 0 (omega arith)), record { cost = filled-none _ _; from = filled-none _ _; to = filled-none _ _ })
 
 add-line : tie.Need-add-line Inv-loop μ-loop
 add-line c = omega arith
@@ -40,7 +50,7 @@ second-guess-requires : tie.Need-second-guess-requires Inv-loop μ-loop
 second-guess-requires c κs = omega arith
 
 move-is-requires : tie.Need-move-is-requires Inv-loop μ-loop
-move-is-requires c κs = (c .before .before .before .before .before .before .before .before .before .before .pre .0, omega arith)
+move-is-requires c κs = (c .before .before .before .before .before .before .before .before .before .before .before .before .pre .0, omega arith)
 
 same-length : tie.Need-same-length Inv-loop μ-loop
 same-length c = c .before .before .before .before .before .loop .inv .2 .cost .same-length
@@ -70,27 +80,27 @@ cost-requires c κs = tt
 mul-rank : tie.Need-mul-rank Inv-loop μ-loop
 mul-rank c =
     let stands = c .before .before .before .move-is .ensures (went-on _ (c .before .before .if1 .left)) in
-    omega (arith, stands .from-position, stands .to-position, cost-fits _ _ (c .cost .ensures), c .before .before .before .before .before .before .before .before .before .before .before .before .before .before .pre .0 .few)
+    omega (arith, stands .from-position, stands .to-position, cost-fits _ _ (c .cost .ensures), c .before .before .before .before .before .before .before .before .before .before .before .before .before .before .before .before .pre .0 .few)
 
 cast-rank : tie.Need-cast-rank Inv-loop μ-loop
 cast-rank c =
     let stands = c .before .before .before .move-is .ensures (went-on _ (c .before .before .if1 .left)) in
-    omega (arith, stands .from-position, stands .to-position, cost-fits _ _ (c .cost .ensures), c .before .before .before .before .before .before .before .before .before .before .before .before .before .before .pre .0 .few)
+    omega (arith, stands .from-position, stands .to-position, cost-fits _ _ (c .cost .ensures), c .before .before .before .before .before .before .before .before .before .before .before .before .before .before .before .before .pre .0 .few)
 
 add-rank : tie.Need-add-rank Inv-loop μ-loop
 add-rank c =
     let stands = c .before .before .before .move-is .ensures (went-on _ (c .before .before .if1 .left)) in
-    omega (arith, stands .from-position, stands .to-position, cost-fits _ _ (c .cost .ensures), c .before .before .before .before .before .before .before .before .before .before .before .before .before .before .pre .0 .few)
+    omega (arith, stands .from-position, stands .to-position, cost-fits _ _ (c .cost .ensures), c .before .before .before .before .before .before .before .before .before .before .before .before .before .before .before .before .pre .0 .few)
 
 mul-rank-2 : tie.Need-mul-rank-2 Inv-loop μ-loop
 mul-rank-2 c =
     let stands = c .before .before .before .move-is .ensures (went-on _ (c .before .before .if1 .left)) in
-    omega (arith, stands .from-position, stands .to-position, cost-fits _ _ (c .cost .ensures), c .before .before .before .before .before .before .before .before .before .before .before .before .before .before .pre .0 .few)
+    omega (arith, stands .from-position, stands .to-position, cost-fits _ _ (c .cost .ensures), c .before .before .before .before .before .before .before .before .before .before .before .before .before .before .before .before .pre .0 .few)
 
 add-rank-2 : tie.Need-add-rank-2 Inv-loop μ-loop
 add-rank-2 c =
     let stands = c .before .before .before .move-is .ensures (went-on _ (c .before .before .if1 .left)) in
-    omega (arith, stands .from-position, stands .to-position, cost-fits _ _ (c .cost .ensures), c .before .before .before .before .before .before .before .before .before .before .before .before .before .before .pre .0 .few)
+    omega (arith, stands .from-position, stands .to-position, cost-fits _ _ (c .cost .ensures), c .before .before .before .before .before .before .before .before .before .before .before .before .before .before .before .before .pre .0 .few)
 
 same-length-4 : tie.Need-same-length-4 Inv-loop μ-loop
 same-length-4 c = c .before .before .before .before .before .before .before .before .loop .inv .2 .cost .same-length
@@ -110,6 +120,16 @@ returns-2 c =
       froms-kept = filled-kept (inv .0) (inv .2 .from);
       tos-kept = filled-kept (inv .0) (inv .2 .to);
     }
+
+mul-if3 : tie.Need-mul-if3 Inv-loop μ-loop
+mul-if3 c =
+    let head = c .before .before .before .before .before .before .before .before in
+    omega (arith, head .loop .inv .1 .inside, head .before .before .before .before .before .before .before .before .before .pre .0 .few)
+
+add-if3 : tie.Need-add-if3 Inv-loop μ-loop
+add-if3 c =
+    let head = c .before .before .before .before .before .before .before .before in
+    omega (arith, head .loop .inv .1 .inside, head .before .before .before .before .before .before .before .before .before .pre .0 .few)
 
 same-length-7 : tie.Need-same-length-7 Inv-loop μ-loop
 same-length-7 c = c .before .before .before .before .before .before .before .before .before .loop .inv .2 .cost .same-length
@@ -136,7 +156,7 @@ slice-write-costs c = omega arith
 cast-froms : tie.Need-cast-froms Inv-loop μ-loop
 cast-froms c =
     let stands = c .before .before .before .before .before .move-is .ensures (went-on _ (c .before .before .before .before .if1 .left)) in
-    omega (arith, stands .from-position, stands .to-position, cost-fits _ _ (c .before .before .cost .ensures), c .before .before .before .before .before .before .before .before .before .before .before .before .before .before .before .before .pre .0 .few)
+    omega (arith, stands .from-position, stands .to-position, cost-fits _ _ (c .before .before .cost .ensures), c .before .before .before .before .before .before .before .before .before .before .before .before .before .before .before .before .before .before .pre .0 .few)
 
 mul-froms : tie.Need-mul-froms Inv-loop μ-loop
 mul-froms c = omega arith
@@ -147,7 +167,7 @@ slice-write-froms c = omega arith
 cast-tos : tie.Need-cast-tos Inv-loop μ-loop
 cast-tos c =
     let stands = c .before .before .before .before .before .move-is .ensures (went-on _ (c .before .before .before .before .if1 .left)) in
-    omega (arith, stands .from-position, stands .to-position, cost-fits _ _ (c .before .before .cost .ensures), c .before .before .before .before .before .before .before .before .before .before .before .before .before .before .before .before .pre .0 .few)
+    omega (arith, stands .from-position, stands .to-position, cost-fits _ _ (c .before .before .cost .ensures), c .before .before .before .before .before .before .before .before .before .before .before .before .before .before .before .before .before .before .pre .0 .few)
 
 mul-tos : tie.Need-mul-tos Inv-loop μ-loop
 mul-tos c = omega arith
@@ -158,17 +178,30 @@ slice-write-tos c = omega arith
 add-lowest : tie.Need-add-lowest Inv-loop μ-loop
 add-lowest c =
     let stands = c .before .before .before .before .before .move-is .ensures (went-on _ (c .before .before .before .before .if1 .left)) in
-    omega (arith, stands .from-position, stands .to-position, cost-fits _ _ (c .before .before .cost .ensures), c .before .before .before .before .before .before .before .before .before .before .before .before .before .before .before .before .pre .0 .few)
+    omega (arith, stands .from-position, stands .to-position, cost-fits _ _ (c .before .before .cost .ensures), c .before .before .before .before .before .before .before .before .before .before .before .before .before .before .before .before .before .before .pre .0 .few)
 
-mul-limit : tie.Need-mul-limit Inv-loop μ-loop
-mul-limit c =
+add-due : tie.Need-add-due Inv-loop μ-loop
+add-due c =
     let stands = c .before .before .before .before .before .move-is .ensures (went-on _ (c .before .before .before .before .if1 .left)) in
-    omega (arith, stands .from-position, stands .to-position, cost-fits _ _ (c .before .before .cost .ensures), c .before .before .before .before .before .before .before .before .before .before .before .before .before .before .before .before .pre .0 .few)
+    omega (arith, stands .from-position, c .before .before .before .before .before .before .before .before .before .before .before .before .before .before .before .before .before .before .pre .0 .few)
 
-add-limit : tie.Need-add-limit Inv-loop μ-loop
-add-limit c =
+mul-due : tie.Need-mul-due Inv-loop μ-loop
+mul-due c =
     let stands = c .before .before .before .before .before .move-is .ensures (went-on _ (c .before .before .before .before .if1 .left)) in
-    omega (arith, stands .from-position, stands .to-position, cost-fits _ _ (c .before .before .cost .ensures), c .before .before .before .before .before .before .before .before .before .before .before .before .before .before .before .before .pre .0 .few)
+    omega (arith, stands .from-position, c .before .before .before .before .before .before .before .before .before .before .before .before .before .before .before .before .before .before .pre .0 .few)
+
+shared-slice-read-due-2 : tie.Need-shared-slice-read-due-2 Inv-loop μ-loop
+shared-slice-read-due-2 c =
+    let line = c .before in
+    let stands = line .before .before .before .before .before .move-is .ensures (went-on _ (line .before .before .before .before .if1 .left)) in
+    omega (arith, stands .from-position, line .before .before .before .before .before .before .before .before .before .before .before .before .before .before .before .before .before .before .pre .1 .0 .dues-row)
+
+cast-due-2 : tie.Need-cast-due-2 Inv-loop μ-loop
+cast-due-2 c =
+    let line = c .before in
+    let start = line .before .before .before .before .before .before .before .before .before .before .before .before .before .before .before .before .before .before in
+    let stands = line .before .before .before .before .before .move-is .ensures (went-on _ (line .before .before .before .before .if1 .left)) in
+    omega (arith, start .pre .0 .few, start .pre .1 .0 .due (line .before .before .before .before .before .before .before .first-guess .result + 1) (omega (arith, stands .from-position)) .high)
 
 add-i : tie.Need-add-i Inv-loop μ-loop
 add-i c = omega arith
@@ -179,25 +212,23 @@ loop-less c = omega arith
 loop-again : tie.Need-loop-again Inv-loop μ-loop
 unfolding letterAt rankOf
 loop-again c =
-    let head = c .before .before .before .before .before .before .before .before .before in
-    let start = head .before .before .before .before .before .before .before in
+    let line = c .before in
+    let turn = line .before .before .before .before .before .before .before .before in
+    let more = turn .loop-test .taken in
+    let head = turn .before in
+    let start = head .before .before .before .before .before .before .before .before .before in
     let inv = head .loop .inv in
-    let stands = c .before .before .before .before .before .move-is .ensures (went-on _ (c .before .before .before .before .if1 .left)) in
-    let cost = c .before .before .cost .ensures in (
-      omega arith,
-      so-far-next (now (start .args .text)) (start .args .n) (head .loop .i) (head .loop .lowest) (head .loop .limit) _ _ _ (start .pre .0 .few) (inv .1) stands cost (c .before .if2 .left) (c .if3 .left),
+    let stands = line .before .before .before .before .before .move-is .ensures (went-on _ (line .before .before .before .before .if1 .left)) in
+    let cost = line .before .before .cost .ensures in (
+      omega (arith, more),
+      so-far-next (now (start .args .text)) (start .args .n) (head .loop .i) (head .loop .lowest) (head .loop .due) _ _ _ _ _ _ (start .pre .0) (inv .1) stands cost (line .before .if2 .left) (line .if3 .left)
+          (start .pre .1 .0 .due _ (omega (arith, stands .from-position))),
       record {
-        cost = filled-more _ _ (head .loop .i) _ _ (inv .2 .cost) (omega arith) cost;
-        from = filled-more _ _ (head .loop .i) _ _ (inv .2 .from) (omega arith) (sym (reads-from _ _ _ _ _ (stands .reads)));
-        to = filled-more _ _ (head .loop .i) _ _ (inv .2 .to) (omega arith) (sym (reads-to _ _ _ _ _ (stands .reads)));
+        cost = filled-more _ _ (head .loop .i) _ _ (inv .2 .cost) (omega (arith, more, start .pre .1 .1 .1 .0)) cost;
+        from = filled-more _ _ (head .loop .i) _ _ (inv .2 .from) (omega (arith, more, start .pre .1 .1 .1 .1)) (sym (reads-from _ _ _ _ _ (stands .reads)));
+        to = filled-more _ _ (head .loop .i) _ _ (inv .2 .to) (omega (arith, more, start .pre .1 .1 .1 .2)) (sym (reads-to _ _ _ _ _ (stands .reads)));
       },
     )
-
-mul-result : tie.Need-mul-result Inv-loop μ-loop
-mul-result c = omega arith
-
-add-result : tie.Need-add-result Inv-loop μ-loop
-add-result c = omega arith
 
 same-length-10 : tie.Need-same-length-10 Inv-loop μ-loop
 same-length-10 c = c .before .loop .inv .2 .cost .same-length
@@ -211,12 +242,12 @@ same-length-12 c = c .before .loop .inv .2 .to .same-length
 returns-4 : tie.Need-returns-4 Inv-loop μ-loop
 returns-4 c =
     let head = c .before in
-    let a = head .before .before .before .before .before .before .before .args in
+    let a = head .before .before .before .before .before .before .before .before .before .args in
     let inv = head .loop .inv in
     let all : head .loop .i ≡ a .m = omega arith in
     record {
       told = λ e.
-          let full = eqb-true (head .loop .limit) (a .n * 1024 + 512) e in
+          let full = eqb-true (head .loop .due) (a .n) e in
           subst (λ (k : ℕ). MovesPassed (now (a .text)) (a .n) k (now (a .costs)) (head .loop .costs) (now (a .froms)) (head .loop .froms) (now (a .tos)) (head .loop .tos)) all
           (record { good = inv .1 .good; meant = λ v h. inv .1 .meant v (omega arith); rows = inv .2 });
       costs-kept = filled-kept (inv .0) (inv .2 .cost);
@@ -230,6 +261,8 @@ walk-moves-spec =
     (tie.spec
     Inv-loop
     μ-loop
+    shared-slice-read-due
+    cast-due
     loop-holds
     add-line
     add-line-2
@@ -252,6 +285,8 @@ walk-moves-spec =
     same-length-5
     same-length-6
     returns-2
+    mul-if3
+    add-if3
     same-length-7
     same-length-8
     same-length-9
@@ -264,13 +299,13 @@ walk-moves-spec =
     mul-tos
     slice-write-tos
     add-lowest
-    mul-limit
-    add-limit
+    add-due
+    mul-due
+    shared-slice-read-due-2
+    cast-due-2
     add-i
     loop-less
     loop-again
-    mul-result
-    add-result
     same-length-10
     same-length-11
     same-length-12

@@ -8,7 +8,7 @@ use Rattle.rows.specs.Filling.{filled-none, filled-more, filled-kept}
 use Rattle.chart.specs.Text.{letterAt}
 use Rattle.chart.specs.Good.{GoodPosition}
 use Rattle.walk.specs.Walked.{PositionsPassed}
-use Rattle.walk.specs.WalkLaws.{stopped, went-on, owner-fits, mark-word-fits, position-stands}
+use Rattle.walk.specs.WalkLaws.{stopped, went-on, letter-fits, mark-word-fits, position-stands}
 use Rattle.walk.proofs.walk_positions.Statement.{statement}
 use Rattle.walk.proofs.walk_positions.Tie as tie
 
@@ -39,17 +39,11 @@ add-last c = omega arith
 shared-slice-read-last : tie.Need-shared-slice-read-last Inv-loop μ-loop
 shared-slice-read-last c = omega arith
 
-cast-line-is : tie.Need-cast-line-is Inv-loop μ-loop
-cast-line-is c = omega arith
+letter-of-requires : tie.Need-letter-of-requires Inv-loop μ-loop
+letter-of-requires c κs = tt
 
 mul-line-is : tie.Need-mul-line-is Inv-loop μ-loop
 mul-line-is c = omega arith
-
-sub-line-is : tie.Need-sub-line-is Inv-loop μ-loop
-sub-line-is c = omega (arith, owner-fits _ _ (c .before .owner .ensures))
-
-mul-line-is-2 : tie.Need-mul-line-is-2 Inv-loop μ-loop
-mul-line-is-2 c = omega arith
 
 shared-slice-read-line-is : tie.Need-shared-slice-read-line-is Inv-loop μ-loop
 shared-slice-read-line-is c = omega arith
@@ -58,17 +52,17 @@ mark-word-requires : tie.Need-mark-word-requires Inv-loop μ-loop
 mark-word-requires c κs = tt
 
 line-is-requires : tie.Need-line-is-requires Inv-loop μ-loop
-line-is-requires c κs = (omega arith, (omega arith, mark-word-fits _ _ (c .mark-word .ensures)))
+line-is-requires c κs = (omega arith, (letter-fits _ _ (c .before .before .letter-of .ensures), mark-word-fits _ _ (c .mark-word .ensures)))
 
 same-length : tie.Need-same-length Inv-loop μ-loop
-same-length c = c .before .before .before .before .before .before .before .before .loop .inv .1 .rows .owner .same-length
+same-length c = c .before .before .before .before .before .before .before .before .before .loop .inv .1 .rows .owner .same-length
 
 same-length-2 : tie.Need-same-length-2 Inv-loop μ-loop
-same-length-2 c = c .before .before .before .before .before .before .before .before .loop .inv .1 .rows .mark .same-length
+same-length-2 c = c .before .before .before .before .before .before .before .before .before .loop .inv .1 .rows .mark .same-length
 
 returns : tie.Need-returns Inv-loop μ-loop
 returns c =
-    let inv = c .before .before .before .before .before .before .before .before .loop .inv in
+    let inv = c .before .before .before .before .before .before .before .before .before .loop .inv in
     record { told = stopped; owners-kept = filled-kept (inv .0) (inv .1 .rows .owner); marks-kept = filled-kept (inv .0) (inv .1 .rows .mark) }
 
 slice-write-owners : tie.Need-slice-write-owners Inv-loop μ-loop
@@ -86,13 +80,13 @@ loop-less c = omega arith
 loop-again : tie.Need-loop-again Inv-loop μ-loop
 unfolding letterAt
 loop-again c =
-    let head = c .before .before .before .before .before .before .before .before in
+    let head = c .before .before .before .before .before .before .before .before .before in
     let start = head .before .before .before .before .before in
     let inv = head .loop .inv in
     let v = head .loop .v in
-    let owner = c .before .before .before .before .before .owner .ensures in
-    let words = rw (start .pre .1 .0 .0 v (omega arith), c .before .before .mark-word .ensures) at (c .before .line-is .ensures (went-on _ (c .if1 .left))) in
-    let stands = position-stands (now (start .args .text)) v _ _ (omega arith) owner words in (
+    let owner = c .before .before .before .before .before .before .owner .ensures in
+    let words = rw (start .pre .1 .0 .0 v (omega arith), c .before .before .before .before .letter-of .ensures, c .before .before .mark-word .ensures) at (c .before .line-is .ensures (went-on _ (c .if1 .left))) in
+    let stands = position-stands (now (start .args .text)) v _ _ (omega arith) words in (
       omega arith,
       record {
         good = below-more (λ (k : ℕ). GoodPosition (now (start .args .text)) (k + 1)) v (inv .1 .good) (stands .good);
@@ -133,10 +127,8 @@ walk-positions-spec =
     owner-requires
     add-last
     shared-slice-read-last
-    cast-line-is
+    letter-of-requires
     mul-line-is
-    sub-line-is
-    mul-line-is-2
     shared-slice-read-line-is
     mark-word-requires
     line-is-requires

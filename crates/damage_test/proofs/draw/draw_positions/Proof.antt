@@ -5,22 +5,22 @@ use Rattle.damage_test.proofs.draw.draw_positions.Statement.{statement}
 use Rattle.damage_test.proofs.draw.draw_positions.Tie as tie
 
 abbrev Inv-loop : tie.InvT-loop
-Inv-loop page₀ n seed₀ v₀ page seed v = v ≤ n
+Inv-loop page₀ n rests seed₀ v₀ page seed v = v ≤ n
 
 abbrev μ-loop : tie.MeasureT-loop
-μ-loop page₀ n seed₀ v₀ page seed v = n - v
+μ-loop page₀ n rests seed₀ v₀ page seed v = n - v
 
 loop-holds : tie.Need-loop-holds Inv-loop μ-loop
 loop-holds c = search needs
 
-below-requires : tie.Need-below-requires Inv-loop μ-loop
-below-requires c κs = search needs
+draw-owner-requires : tie.Need-draw-owner-requires Inv-loop μ-loop
+draw-owner-requires c κs = search needs
 
 add-put-line : tie.Need-add-put-line Inv-loop μ-loop
 add-put-line c = search needs
 
-below-requires-2 : tie.Need-below-requires-2 Inv-loop μ-loop
-below-requires-2 c κs = search needs
+below-requires : tie.Need-below-requires Inv-loop μ-loop
+below-requires c κs = search needs
 
 draw-mark-requires : tie.Need-draw-mark-requires Inv-loop μ-loop
 draw-mark-requires c κs = search needs
@@ -47,9 +47,9 @@ draw-positions-spec =
     Inv-loop
     μ-loop
     loop-holds
-    below-requires
+    draw-owner-requires
     add-put-line
-    below-requires-2
+    below-requires
     draw-mark-requires
     put-line-requires
     add-v

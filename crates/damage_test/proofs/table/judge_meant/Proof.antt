@@ -16,8 +16,8 @@ number-requires c κs = search needs
 loop-holds : tie.Need-loop-holds Inv-loop μ-loop
 loop-holds c = search needs
 
-has-meant-requires : tie.Need-has-meant-requires Inv-loop μ-loop
-has-meant-requires c κs = search needs
+lacks-meant-requires : tie.Need-lacks-meant-requires Inv-loop μ-loop
+lacks-meant-requires c κs = search needs
 
 add-refused : tie.Need-add-refused Inv-loop μ-loop
 add-refused c = search needs
@@ -51,7 +51,7 @@ judge-meant-spec =
     μ-loop
     number-requires
     loop-holds
-    has-meant-requires
+    lacks-meant-requires
     add-refused
     refused-requires
     returns

@@ -5,10 +5,13 @@ use Rattle.reference_test.proofs.generate.drawn.Statement.{statement}
 use Rattle.reference_test.proofs.generate.drawn.Tie as tie
 
 abbrev Inv-loop : tie.InvT-loop
-Inv-loop chart₀ kind seed₀ shape n v₀ chart seed v = v ≤ n
+Inv-loop chart₀ kind seed₀ rests shape n v₀ chart seed v = v ≤ n
 
 abbrev μ-loop : tie.MeasureT-loop
-μ-loop chart₀ kind seed₀ shape n v₀ chart seed v = n - v
+μ-loop chart₀ kind seed₀ rests shape n v₀ chart seed v = n - v
+
+draw-rests-requires : tie.Need-draw-rests-requires Inv-loop μ-loop
+draw-rests-requires c κs = search needs
 
 below-requires : tie.Need-below-requires Inv-loop μ-loop
 below-requires c κs = search needs
@@ -52,6 +55,7 @@ drawn-spec =
     (tie.spec
     Inv-loop
     μ-loop
+    draw-rests-requires
     below-requires
     below-requires-2
     below-requires-3
