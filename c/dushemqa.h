@@ -74,8 +74,8 @@ extern "C" {
 #define DUSHEMQA_MAX_SEEN 99999
 
 /* Why a job refused. 1 to 9 and 17 are the chart's: every job tests them first, 9 last, and answers the lowest line at fault; 17
- * is tested beside 7, after 6 and before 8. Of 10 to 16 a job answers the lowest number that applies; its own list says which it
- * has. */
+ * is tested beside 7, after 6 and before 8. Of 10 to 16 and 18 a job answers the first that applies, by number, save that 18 is
+ * tested after 14 and before 15; its own list says which it has. */
 enum dushemqa_number {
     DUSHEMQA_TAKEN = 0,             /* nothing was refused */
     DUSHEMQA_REFUSED_LENGTH = 1,    /* chart empty, over 55,308 bytes, or no multiple of 12 */
@@ -94,7 +94,8 @@ enum dushemqa_number {
     DUSHEMQA_REFUSED_FAULT = 14,    /* checking finds a fault; its position and condition are given */
     DUSHEMQA_REFUSED_MOVE = 15,     /* the reported move can't follow */
     DUSHEMQA_REFUSED_SEEN = 16,     /* a disturbance with DUSHEMQA_MAX_SEEN or more seen */
-    DUSHEMQA_REFUSED_RESTING = 17   /* a meant move from a position of rest */
+    DUSHEMQA_REFUSED_RESTING = 17,  /* a meant move from a position of rest */
+    DUSHEMQA_REFUSED_HELD = 18      /* the plate's value at the run's position is not the one that the run holds */
 };
 
 /* The conditions of a plate that dushemqa_check tests, at each position from 0 up:
@@ -156,6 +157,8 @@ typedef struct {
     size_t position;  /* where the machine stands; SIZE_MAX where a refused start began no run */
     uint32_t seen;    /* the disturbances seen */
     uint16_t initial; /* the value at the start, DUSHEMQA_NONE for "ever" */
+    uint16_t value;   /* the value at the position, as the plate of the start or of the last report that was taken gives it;
+                       * DUSHEMQA_NONE for "ever" */
 } dushemqa_run;
 
 /* The plate's choice and value at a position. */
@@ -234,7 +237,8 @@ dushemqa_compared dushemqa_compare(const uint8_t *chart, size_t chart_length,
                                    const uint8_t *plate, size_t plate_length,
                                    const uint16_t *choices, size_t choices_length);
 
-/* Start: a run on a plate that checking accepts.
+/* Start: a run on a plate that checking accepts. It holds the plate's value at its position, as that of the start and as the
+ * present one.
  *   chart, chart_length  the chart's bytes
  *   plate, plate_length  the plate's bytes
  *   position             where the machine stands
@@ -247,14 +251,18 @@ dushemqa_step dushemqa_start(const uint8_t *chart, size_t chart_length,
 /* Report: the machine went to a position. At O the move counts as meant if it is the plate's choice and a meant target, else
  * as a disturbance if a D line has it, else it is refused with 15; at L it counts as meant if it is a meant target, else it is
  * refused with 15; at R it counts as a disturbance if a D line has it, else it is refused with 15. A meant target at O that is
- * not the plate's choice thus counts as a disturbance, or not at all. While the same two texts are lent, the value at the run's
- * position plus the disturbances seen is at least the value at its start. The plate's form is tested, and not again whether it
- * is right.
+ * not the plate's choice thus counts as a disturbance, or not at all.
+ * Any chart and plate may be lent at any report, those of the start or others. The plate is checked, as dushemqa_check does, and
+ * its value at the run's position must be the one that the run holds. A report that is taken leaves the run with the plate's
+ * value at the new position. So the value that a run holds plus the disturbances seen is at least the value at its start, after
+ * all reports that were taken, whichever texts each was lent; "ever" is above each number.
+ * Of a run that dushemqa_start did not begin this much holds: a report of it is refused with 18, if with nothing before, unless
+ * its value is that of the lent plate, and the value that it holds plus the disturbances seen never falls below what it was.
  *   run                  as the start or the last report handed it back
  *   chart, chart_length  the chart's bytes
  *   plate, plate_length  the plate's bytes
  *   to                   where the machine went
- * Refusals: 1 to 9 and 17; 11; 13 for `to` or for the run's own position; 15; 16. */
+ * Refusals, in this order: 1 to 9 and 17; 11; 13 for `to` or for the run's own position; 14 with the first fault; 18; 15; 16. */
 dushemqa_step dushemqa_report(dushemqa_run run,
                               const uint8_t *chart, size_t chart_length,
                               const uint8_t *plate, size_t plate_length,

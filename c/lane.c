@@ -45,7 +45,11 @@ static const struct command commands[] = {
      "Starts a run at position START and takes reports from standard input, each the number of the position that the\n"
      "machine went to, on a line of its own. After the start and after each report a line says where the run stands,\n"
      "the disturbances seen, and the plate's value and choice there. A refused report is said on standard error and\n"
-     "the run goes on from where it stood; the status is then 1 at the end.\n"},
+     "the run goes on from where it stood; the status is then 1 at the end.\n"
+     "A line 'swap CHART PLATE' lends the texts of these two files to the reports that follow; the names have no blanks.\n"
+     "They are tested by the next report: the plate must be accepted and have the value that the run holds where it\n"
+     "stands. Where a file can't be read the texts stay as they were, and the status is 1 at the end. Messages count\n"
+     "reports and swaps alike.\n"},
     {"collection", "FOLDER [--write]", 1, 1, "--write", collection_command, "every chart of a folder against its plate",
      "A line for each chart (*.chart, *.txt) in FOLDER, by name, and a summary. A chart is accepted, faulted (its plate is\n"
      "wrong), missing (its plate is), refused (it is no chart), or failed (a file can't be read or written). The plate lies\n"

@@ -91,6 +91,7 @@ unsigned parts_at_fault(const struct text *chart, dushemqa_refusal refusal);
 
 /* words.c: refusals and faults in words. */
 const char *what_is_wrong(uint32_t number);
+bool about_a_sheet(uint32_t number);
 void show_chart_line(FILE *out, const struct text *chart, size_t line);
 void show_where(FILE *out, const struct text *chart, const struct text *plate, dushemqa_refusal refusal);
 enum status say_refusal(const struct text *chart, const struct text *plate, dushemqa_refusal refusal);

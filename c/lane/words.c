@@ -35,6 +35,8 @@ static const struct refusal_words refusals[] = {
     [DUSHEMQA_REFUSED_MOVE] = {NO_SHEET, "the reported move can't follow", "a report"},
     [DUSHEMQA_REFUSED_SEEN] = {NO_SHEET, "a disturbance with 99,999 or more seen", "a report"},
     [DUSHEMQA_REFUSED_RESTING] = {CHART, "a meant move from a position of rest", chart_where},
+    [DUSHEMQA_REFUSED_HELD] = {NO_SHEET, "the plate's value at the run's position is not the one that the run holds",
+                               "a report"},
 };
 
 enum { REFUSALS = sizeof refusals / sizeof refusals[0] };
@@ -70,6 +72,12 @@ const char *what_is_wrong(uint32_t number)
 static enum sheet sheet_of(uint32_t number)
 {
     return number < REFUSALS ? refusals[number].sheet : NO_SHEET;
+}
+
+/* Whether a refusal is about a chart or a plate, so that say_refusal has all the words for it. */
+bool about_a_sheet(uint32_t number)
+{
+    return sheet_of(number) != NO_SHEET;
 }
 
 static const char *condition_name(unsigned condition)

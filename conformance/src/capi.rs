@@ -58,11 +58,12 @@ pub struct Run {
     pub position: usize,
     pub seen: u32,
     pub initial: u16,
+    pub value: u16,
 }
 
 impl Run {
     /// No run: what a refused start hands back. It stands on no chart, so a report of it gives 13.
-    pub const NONE: Run = Run { position: usize::MAX, seen: 0, initial: 0 };
+    pub const NONE: Run = Run { position: usize::MAX, seen: 0, initial: 0, value: 0 };
 }
 
 #[repr(C)]

@@ -13,5 +13,6 @@ pub mod shapes;
 pub mod sheets;
 pub mod solver;
 pub mod stacks;
+pub mod swaps;
 pub mod tally;
 pub mod trial;

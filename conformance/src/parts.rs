@@ -9,6 +9,7 @@ pub mod pairs;
 pub mod rest;
 pub mod setting;
 pub mod small;
+pub mod swapped;
 
 use crate::capi::NONE;
 use crate::chart::{Chart, Owner, Position};
@@ -40,6 +41,11 @@ fn controllers(chart: &Chart) -> Vec<Vec<u16>> {
         rows = rows.iter().flat_map(|row| choices.iter().map(|&choice| [row.as_slice(), &[choice]].concat())).collect();
     }
     rows
+}
+
+/// A choice for each position at random among the good moves.
+fn good_choices(random: &mut Random, good: &[Vec<u16>]) -> Vec<u16> {
+    good.iter().map(|targets| if targets.is_empty() { NONE } else { *random.pick(targets) }).collect()
 }
 
 /// A choice for each position at random: a meant target at O, none at L and at R.

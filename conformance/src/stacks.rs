@@ -1,7 +1,7 @@
 //! The stack that each of the library's jobs uses.
 
 use crate::capi::{self, Run};
-use crate::chart::{Owner, Position, MOVES, POSITIONS};
+use crate::chart::{Chart, Owner, MOVES, POSITIONS};
 use crate::measure::stack;
 use crate::model::Subject;
 use crate::tally::JOBS;
@@ -21,8 +21,7 @@ pub fn stacks(text: &[u8]) -> Vec<(&'static str, usize)> {
     let mut written = [0u8; 22 * (POSITIONS + 1)];
     let mut sheet = [0u8; 12 * MOVES];
     let taken = |number| assert_eq!(number, 0, "nothing was refused");
-    let run = Run { position: 0, seen: 0, initial: 0 };
-    let to = follower(&chart.positions[0], choices[0]);
+    let (run, to) = first_report(&subject, chart);
     let bytes = [
         stack(|| taken(capi::value(text, values, others, steps).refusal.number)),
         stack(|| taken(capi::write(text, &mut written).refusal.number)),
@@ -31,17 +30,20 @@ pub fn stacks(text: &[u8]) -> Vec<(&'static str, usize)> {
         stack(|| taken(capi::weigh(text, choices, values).number)),
         stack(|| taken(capi::compare(text, plate, choices).refusal.number)),
         stack(|| taken(capi::start(text, plate, 0).refusal.number)),
-        stack(|| taken(capi::report(run, text, plate, usize::from(to)).refusal.number)),
+        stack(|| taken(capi::report(run, text, plate, to).refusal.number)),
         stack(|| taken(capi::good_moves(text, &mut sheet).refusal.number)),
     ];
     JOBS.into_iter().zip(bytes).collect()
 }
 
-/// A position that can follow one, whose choice is given.
-fn follower(position: &Position, choice: u16) -> u16 {
-    match position.owner {
+/// A run that stands at 0 of a chart, and a position that can follow.
+pub fn first_report(subject: &Subject, chart: &Chart) -> (Run, usize) {
+    let (value, choice) = (subject.valuation(chart).values[0], subject.valuation(chart).choices[0]);
+    let position = &chart.positions[0];
+    let to = match position.owner {
         Owner::Console => choice,
         Owner::Lane => position.meant[0],
         Owner::Nobody => position.disturbances[0],
-    }
+    };
+    (Run { position: 0, seen: 0, initial: value, value }, usize::from(to))
 }

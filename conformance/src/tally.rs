@@ -1,17 +1,19 @@
-//! What was tried: inputs, calls, how often each job gave each refusal, and what was seen of blanks, of good moves and of
-//! positions of rest.
+//! What was tried: inputs, calls, how often each job gave each refusal, and what was seen of blanks, of good moves, of
+//! positions of rest and of reports with other texts.
 
-use crate::{blanks, rests, sheets};
+use crate::{blanks, rests, sheets, swaps};
 
 /// The jobs, in the order of the header.
 pub const JOBS: [&str; 9] = ["value", "write", "read", "check", "weigh", "compare", "start", "report", "good"];
 
 /// The refusals of the table, with 0 for none.
-const NUMBERS: usize = 18;
+const NUMBERS: usize = 19;
 
-/// The refusals from 10 to 16 that each job has.
-const BEYOND: [&[usize]; JOBS.len()] =
-    [&[10], &[10], &[10, 11], &[11, 14], &[10, 12], &[10, 11, 12, 14], &[11, 13, 14], &[11, 13, 15, 16], &[10]];
+/// The refusals from 10 to 16, and 18, that each job has.
+#[rustfmt::skip]
+const BEYOND: [&[usize]; JOBS.len()] = [
+    &[10], &[10], &[10, 11], &[11, 14], &[10, 12], &[10, 11, 12, 14], &[11, 13, 14], &[11, 13, 14, 15, 16, 18], &[10],
+];
 
 /// Fewer sightings than this of a refusal or a condition are too few to count as a test of it.
 const ENOUGH: u64 = 100;
@@ -39,6 +41,8 @@ pub struct Tally {
     /// How often each of the sights of positions of rest was seen, in charts and in calls.
     pub rests: [u64; rests::CHARTS.len()],
     pub rest_calls: [u64; rests::CALLS.len()],
+    /// How often each of the sights of reports with other texts was seen.
+    pub swaps: [u64; swaps::SIGHTS.len()],
 }
 
 impl Tally {
@@ -57,6 +61,12 @@ impl Tally {
         add_each(&mut self.sheets, &other.sheets);
         add_each(&mut self.rests, &other.rests);
         add_each(&mut self.rest_calls, &other.rest_calls);
+        add_each(&mut self.swaps, &other.swaps);
+    }
+
+    /// Counts what a report with other texts shows.
+    pub fn note_swap(&mut self, sights: [bool; swaps::SIGHTS.len()]) {
+        self.swaps.iter_mut().zip(sights).for_each(|(count, seen)| *count += u64::from(seen));
     }
 
     /// Prints how often each job gave each refusal.
@@ -84,6 +94,7 @@ impl Tally {
         println!("controllers: {} with listed choices only, {} with others", self.listed, self.unlisted);
         print_sights("charts and R", &rests::CHARTS, &self.rests);
         print_sights("calls at R", &rests::CALLS, &self.rest_calls);
+        print_sights("reports with other texts", &swaps::SIGHTS, &self.swaps);
     }
 
     /// What was seen too seldom for this to be a test of it, if all counts of inputs were divided by `divisor`.
@@ -116,12 +127,13 @@ impl Tally {
     }
 
     /// What is seen of inputs and calls beside the refusals.
-    fn sights(&self) -> [Sights<'_>; 4] {
+    fn sights(&self) -> [Sights<'_>; 5] {
         [
             ("a blank", &blanks::SIGHTS, &self.blanks),
             ("a sheet of good moves", &sheets::SIGHTS, &self.sheets),
             ("a chart and R", &rests::CHARTS, &self.rests),
             ("a call at R", &rests::CALLS, &self.rest_calls),
+            ("a report with other texts", &swaps::SIGHTS, &self.swaps),
         ]
     }
 }

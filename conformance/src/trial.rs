@@ -1,6 +1,6 @@
 //! One call of the library set against the model: the whole answer, and every lent byte or number after the call.
 
-use crate::capi::{self, Refusal, Run, NONE};
+use crate::capi::{self, Refusal, Run, Step, NONE};
 use crate::chart::Chart;
 use crate::model::{plate_text, Plate, Subject};
 use crate::tally::{Tally, JOBS};
@@ -162,22 +162,22 @@ impl Trial {
         }
     }
 
-    /// The model's run, which is the library's too.
-    pub fn start(&mut self, subject: &Subject, plate: &[u8], position: usize) -> Run {
+    /// The model's answer, which is the library's too.
+    pub fn start(&mut self, subject: &Subject, plate: &[u8], position: usize) -> Step {
         let answer = subject.start(plate, position);
         let got = capi::start(subject.text, plate, position);
         let given = Given { position: Some(position), ..Given::default() };
         self.settle(6, answer.refusal, got == answer, || show(6, subject, plate, &given, &answer, &got));
-        answer.run
+        answer
     }
 
-    pub fn report(&mut self, subject: &Subject, run: Run, plate: &[u8], to: usize) -> Run {
+    pub fn report(&mut self, subject: &Subject, run: Run, plate: &[u8], to: usize) -> Step {
         let answer = subject.report(run, plate, to);
         let got = capi::report(run, subject.text, plate, to);
         let given = Given { run: Some(run), position: Some(to), ..Given::default() };
         self.settle(7, answer.refusal, got == answer, || show(7, subject, plate, &given, &answer, &got));
         self.at_rest(rests::reported(subject, run, answer.refusal));
-        answer.run
+        answer
     }
 
     pub fn good_moves(&mut self, subject: &Subject, length: usize) {

@@ -14,13 +14,18 @@ pub fn start(chart: &Chart, plate: &[u8], position: usize) -> Result<Step, Refus
         return Err(refused(13));
     }
     check::accepted(chart, &plate)?;
-    Ok(holding(&plate, Run { position, seen: 0, initial: plate.values[position] }))
+    let value = plate.values[position];
+    Ok(holding(&plate, Run { position, seen: 0, initial: value, value }))
 }
 
 pub fn report(chart: &Chart, run: Run, plate: &[u8], to: usize) -> Result<Step, Refusal> {
     let plate = plate::parse(chart.len(), plate)?;
     if run.position >= chart.len() || to >= chart.len() {
         return Err(refused(13));
+    }
+    check::accepted(chart, &plate)?;
+    if run.value != plate.values[run.position] {
+        return Err(refused(18));
     }
     let position = &chart.positions[run.position];
     let meant = position.meant.contains(&(to as u16));
@@ -31,7 +36,7 @@ pub fn report(chart: &Chart, run: Run, plate: &[u8], to: usize) -> Result<Step, 
         Owner::Nobody => false,
     };
     if follows {
-        return Ok(holding(&plate, Run { position: to, ..run }));
+        return Ok(holding(&plate, Run { position: to, value: plate.values[to], ..run }));
     }
     if !position.disturbances.contains(&(to as u16)) {
         return Err(refused(15));
@@ -39,7 +44,7 @@ pub fn report(chart: &Chart, run: Run, plate: &[u8], to: usize) -> Result<Step, 
     if run.seen >= COUNTED {
         return Err(refused(16));
     }
-    Ok(holding(&plate, Run { position: to, seen: run.seen + 1, ..run }))
+    Ok(holding(&plate, Run { position: to, seen: run.seen + 1, value: plate.values[to], ..run }))
 }
 
 /// The answer with a run at its position.

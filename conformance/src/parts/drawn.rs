@@ -1,14 +1,15 @@
 //! Part 3: pseudo-random charts up to the limits, with every job on each, a run of reports, and controllers held against
 //! the list of good moves.
 
-use super::{random_choices, Share};
+use super::{good_choices, random_choices, Share};
 use crate::blanks::leave_out_some;
-use crate::capi::{Run, NONE};
+use crate::capi::Run;
 use crate::chart::{Chart, Owner, MOVES, POSITIONS};
 use crate::model::Subject;
 use crate::random::Random;
 use crate::shapes::{blocks, console_chain, filled, lane_chain, renumbered, rest_chain, stirred, Shape, SHAPES};
 use crate::shapes::{drawn_or_rested, perhaps_rested};
+use crate::swaps::promise_kept;
 use crate::tally::Tally;
 use crate::trial::Trial;
 
@@ -104,11 +105,6 @@ fn good_moves(trial: &mut Trial, random: &mut Random, chart: &Chart, subject: &S
     }
 }
 
-/// A choice for each position at random among the good moves.
-fn good_choices(random: &mut Random, good: &[Vec<u16>]) -> Vec<u16> {
-    good.iter().map(|targets| if targets.is_empty() { NONE } else { *random.pick(targets) }).collect()
-}
-
 /// The same choices but for one that is not good, where some position has such a move.
 fn with_a_slip(random: &mut Random, chart: &Chart, choices: &[u16], good: &[Vec<u16>]) -> Vec<u16> {
     let mut choices = choices.to_vec();
@@ -125,12 +121,12 @@ fn with_a_slip(random: &mut Random, chart: &Chart, choices: &[u16], good: &[Vec<
 /// A run that goes on from each answer.
 fn run(trial: &mut Trial, random: &mut Random, chart: &Chart, subject: &Subject, plate: &[u8]) {
     let position = random.below(chart.len());
-    let mut run = trial.start(subject, plate, position);
+    let mut run = trial.start(subject, plate, position).run;
     for _ in 0..6 {
         let to = went(random, chart, subject, run);
-        run = trial.report(subject, run, plate, to);
-        let value = subject.valuation(chart).values[run.position];
-        assert!(u32::from(value) + run.seen >= u32::from(run.initial), "what a run promises: {chart:?}");
+        run = trial.report(subject, run, plate, to).run;
+        assert_eq!(run.value, subject.valuation(chart).values[run.position], "what a run holds: {chart:?}");
+        assert!(promise_kept(run), "what a run promises: {chart:?}");
     }
 }
 

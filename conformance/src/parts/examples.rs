@@ -1,7 +1,9 @@
 //! Part 0: the model itself gives what document 01 says of its example, of the charts at the edges, and of the refusals'
-//! examples, and what document 02 says of blanks (order 1), of good moves (order 2) and of positions of rest (order 4).
+//! examples, and what document 02 says of blanks (order 1), of good moves (order 2), of positions of rest (order 4) and of
+//! reports with other texts (order 5).
 
 mod rests;
+mod swaps;
 
 use crate::blanks::leave_out;
 use crate::capi::{Refusal, Run, NONE};
@@ -161,6 +163,7 @@ pub fn part() -> Tally {
     later_refusals(&mut trial);
     rests::part(&mut trial);
     longest(&mut trial);
+    swaps::part(&mut trial);
     trial.tally
 }
 
@@ -219,7 +222,7 @@ fn later_refusals(trial: &mut Trial) {
     let subject = Subject::new(&chart);
     let number = |number| Refusal { number, ..Refusal::default() };
     let wrong = String::from_utf8(plate.clone()).expect("ASCII").replace("V    0    2", "V    0    3").into_bytes();
-    let run = Run { position: 0, seen: 0, initial: 2 };
+    let run = Run { position: 0, seen: 0, initial: 2, value: 2 };
     let long = Run { seen: 99_999, ..run };
     assert_eq!(subject.write(131).0.refusal, number(10));
     assert_eq!(subject.read(&[], [5; 3]).0.refusal, number(11));
@@ -233,7 +236,7 @@ fn later_refusals(trial: &mut Trial) {
     trial.write(&subject, 131);
     trial.read(&subject, &[], [5; 3]);
     trial.weigh(&subject, &[3, NONE, 0, NONE, 4], 5);
-    let none = trial.start(&subject, &plate, 5);
+    let none = trial.start(&subject, &plate, 5).run;
     trial.report(&subject, none, &plate, 1);
     trial.check(&subject, &wrong);
     trial.report(&subject, run, &plate, 4);

@@ -41,7 +41,8 @@ pub enum Kind {
 /// What the jobs are given.
 pub struct Setting {
     good: Chart,
-    /// How many good moves it has.
+    /// The values of its positions, and how many good moves it has.
+    values: Vec<u16>,
     good_moves: usize,
     pub chart: Vec<u8>,
     pub plate: Vec<u8>,
@@ -62,7 +63,7 @@ pub struct Besides {
 }
 
 /// Mostly small charts, where each line matters; a few up to full size.
-fn good_chart(random: &mut Random) -> Chart {
+pub fn good_chart(random: &mut Random) -> Chart {
     let n = match random.below(1000) {
         0..=2 => random.between(41, POSITIONS),
         3..=99 => random.between(11, 40),
@@ -89,8 +90,9 @@ impl Setting {
             true => subject.valuation(&good).choices.clone(),
             false => random_choices(random, &good),
         };
+        let values = subject.valuation(&good).values.clone();
         let good_moves = sheets::room(&subject) / sheets::LINE;
-        Setting { good, good_moves, chart, plate, choices, odd_run: false, odd_lengths: false }
+        Setting { good, values, good_moves, chart, plate, choices, odd_run: false, odd_lengths: false }
     }
 
     pub fn damage(&mut self, random: &mut Random, kind: Kind) {
@@ -182,12 +184,25 @@ impl Setting {
     fn run(&self, random: &mut Random) -> Run {
         let position = random.below(self.good.len());
         if !self.odd_run {
-            return Run { position, seen: random.below(20) as u32, initial: random.below(5) as u16 };
+            let (seen, initial) = (random.below(20) as u32, random.below(5) as u16);
+            return Run { position, seen, initial, value: self.held(random, position) };
         }
         let any = random.word() as u32;
         let seen = *random.pick(&[0, 1, 99_997, 99_998, 99_999, 100_000, u32::MAX, any]);
         let position = if random.chance(70) { position } else { self.start(random) };
-        Run { position, seen, initial: random.word() as u16 }
+        Run { position, seen, initial: random.word() as u16, value: self.held(random, position) }
+    }
+
+    /// The value that a run holds: mostly that of its position, and else one off, "ever" or any number.
+    fn held(&self, random: &mut Random, position: usize) -> u16 {
+        let right = self.values.get(position).copied().unwrap_or(0);
+        match random.below(20) {
+            0 => right.wrapping_add(1),
+            1 => right.wrapping_sub(1),
+            2 => NONE,
+            3 => random.word() as u16,
+            _ => right,
+        }
     }
 
     /// Where the machine went: mostly by a move of the position it was at.

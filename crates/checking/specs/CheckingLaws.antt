@@ -25,6 +25,7 @@ use Rattle.plate.specs.Range.{Below}
 use Rattle.plate.specs.RangeLaws.{below-fits}
 use Rattle.plate.specs.RoundTrip.{read-in-range}
 use Rattle.plate.specs.RowTrip.{row-column}
+use Rattle.plate.specs.declared.Form.{Form as PlateForm}
 use Rattle.plate.specs.declared.Form.the-variants.{Good, Bad}
 use Rattle.verdict.specs.Verdict.{verdictOf}
 use Rattle.verdict.specs.Sheet.{Ascending, Formed, sheet}
@@ -33,7 +34,7 @@ use Rattle.checking.specs.Checking.{FormedIs, PlateIs, answerOf, chartCh
 use Rattle.verdict.specs.SameFault.{verdict-same}
 use Rattle.verdict.specs.declared.Verdict.{Verdict}
 use Rattle.checking.specs.declared.Checked.{Checked}
-use Rattle.checking.specs.declared.Checked.the-variants.{Refused}
+use Rattle.checking.specs.declared.Checked.the-variants.{Accepted, Refused}
 
 -- the loaded moves lie by their positions
 pub decoded-ascending : (text : List ℕ) (chart : Chart) → examined text ≡ Taken chart → {n : ℕ} {owners marks costs froms tos : List ℕ}
@@ -104,6 +105,16 @@ formed-answer good is e = record { answer = λ a d. ap answerOf (sym e ∙ is .v
 pub bad-answer : {n m line : ℕ} {owners marks costs froms tos plate : List ℕ} → formOf n plate ≡ Bad line → PlateIs n m owners marks costs froms tos plate (Refused (Plate line))
 unfolding plateChecked
 bad-answer bad = record { answer = λ a d. rw bad }
+
+-- only a plate of the form is accepted
+pub accepted-form : {n m : ℕ} {owners marks costs froms tos plate : List ℕ} {r : Checked} (a : Arena) → RowsOf a n m owners marks costs froms tos
+    → PlateIs n m owners marks costs froms tos plate r → r ≡ Accepted → formOf n plate ≡ Good
+unfolding plateChecked
+accepted-form {n = n} {plate = plate} a d is e = go (formOf n plate) (sym e ∙ is .answer a d)
+  where
+    go : (f : PlateForm) → Accepted ≡ plateChecked a plate f → f ≡ Good
+    go Good z = refl
+    go (Bad line) z = let w : _≡_ {A = ℕ} 0 1 = cc in absurd (omega arith)
 
 -- a chart that is refused, and one that is taken
 pub refused-answer : (text plate : List ℕ) (r : Misdrawn) → examined text ≡ Turned r → Refused (OfChart r) ≡ checked text plate

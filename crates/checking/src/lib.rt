@@ -1,5 +1,5 @@
-// Checking (document 01, "The jobs"): a chart and anybody's plate, accepted or refused with the first fault. It has two doors: `check`
-// takes the two texts, `check_formed` a chart's rows and a plate that is known to be of the form.
+// Checking (document 01, "The jobs"): a chart and anybody's plate, accepted or refused with the first fault. It has three doors: `check`
+// takes the two texts, `check_plate` a chart's rows and any plate, `check_formed` rows and a plate that is known to be of the form.
 ghost use mathlib.Core.Path.{_≡_};
 ghost use Rattle.rows.specs.Rows.{ChartRows};
 ghost use Rattle.plate.specs.Formed.{formOf};
@@ -47,8 +47,8 @@ pub fn check(text: &[u8], plate: &[u8]) -> Checked
     }
 }
 
-// Checks a plate against a chart's rows: the form first.
-fn check_plate(
+// Checks a plate against a chart's rows, for who has these already: the form first. The bounds are what `load` gives.
+pub fn check_plate(
     n: usize,
     m: usize,
     owners: &[u8],
@@ -87,8 +87,7 @@ fn check_plate(
     }
 }
 
-// The first fault of a plate of the form, for who has the chart's rows already: the job without its texts. The bounds are what `load` and
-// the plate's form give.
+// The first fault of a plate of the form, for who has looked at the form already. The bounds are what `load` and the plate's form give.
 pub fn check_formed(
     n: usize,
     m: usize,

@@ -1,18 +1,18 @@
 -- The mission's first demand, of the answers: "no misdrawn sheet is taken, and no refusal changes a lent buffer". With it stands document
 -- 01's sentence "the table is exact: a number is returned if its condition holds, and only then", in its order: "then 9; then 10 to 16
--- by number as far as the job has them". Each job has its rows of the table in one list. That nothing makes a job stop, run on or read
--- beyond its input is what every function of the library is proved for.
+-- by number as far as the job has them", with 18 between 14 and 15 (document 02, order 5). Each job has its rows of the table in one list. That
+-- nothing makes a job stop, run on or read beyond its input is what every function of the library is proved for.
 use Prim.Native.Nat.{ℕ, _+_, _*_, _≤_, _<_}
 use mathlib.Core.Path.{_≡_}
 use mathlib.Core.Logic.{_⊎_, _↔_}
 use mathlib.Core.List.{List, [], _∷_}
 use lib.ListN.{length}
-use Rattle.rows.specs.Numbers.{rowValue}
+use Rattle.rows.specs.Numbers.{rowValue, numberOf}
 use Rattle.game.specs.Arena.{size, ownerAt}
 use Rattle.game.specs.Play.{LegalAt}
 use Rattle.refusal.specs.declared.Misdrawn.{Misdrawn}
 use Rattle.refusal.specs.declared.Refusal.{Refusal}
-use Rattle.refusal.specs.declared.Refusal.the-variants.{Chart as OfChart, Short, Plate, Choice, Position, Fault, Move, Seen}
+use Rattle.refusal.specs.declared.Refusal.the-variants.{Chart as OfChart, Short, Plate, Choice, Position, Fault, Held, Move, Seen}
 use Rattle.chart.specs.Meaning.{arenaOf}
 use Rattle.chart.specs.Refusals.{Applies, First}
 use Rattle.plate.specs.Form.{BadAt}
@@ -98,6 +98,10 @@ IllegalChoice text choices = (v : ℕ) × (v < count text) × (LegalAt (arenaOf 
 abbrev pub faulty : (text plate : List ℕ) → Row
 faulty text plate x = (v : ℕ) × (c : ℕ) × (x ≡ Fault v c) × FirstFaultIs (arenaOf text) (valueIn plate) (choiceIn plate) (stepIn plate) (headerIn plate) v c
 
+-- 18: "the plate's value at the run's position isn't the held one", as numbers, 65,535 for "ever"
+abbrev pub NotHeld : Run → (plate : List ℕ) → Type 0
+NotHeld run plate = numberOf (valueIn plate (run .position)) ≡ run .value → ⊥
+
 -- what the move from the run's position is: 15 is for one that "can't follow", 16 for a disturbance
 abbrev pub MoveIs : Run → (text plate : List ℕ) → ℕ → Kind → Type 0
 MoveIs run text plate to = KindSays (ownerAt (arenaOf text) (run .position)) (arenaOf text) (choiceIn plate (run .position)) (run .position) to
@@ -141,12 +145,15 @@ listingRows text out = misdrawn text ∷ only Short (ShorterThanSheet text out) 
 abbrev pub startRows : (text plate : List ℕ) → ℕ → List Row
 startRows text plate position = misdrawn text ∷ malformed text plate ∷ only Position (count text ≤ position) ∷ faulty text plate ∷ []
 
--- "A report tests 11 but not 14. Its 13 covers the run's own position as well"; 16: "a disturbance with 99,999 or more seen"
+-- "Its 13 covers the run's own position as well"; "A report shall check the plate (14), then compare" (document 02, order 5); 16: "a
+-- disturbance with 99,999 or more seen"
 abbrev pub reportRows : Run → (text plate : List ℕ) → ℕ → List Row
 reportRows run text plate to =
     misdrawn text
     ∷ malformed text plate
     ∷ only Position ((count text ≤ run .position) ⊎ (count text ≤ to))
+    ∷ faulty text plate
+    ∷ only Held (NotHeld run plate)
     ∷ only Move (MoveIs run text plate to Neither)
     ∷ only Seen (MoveIs run text plate to Disturbance × (99999 ≤ run .seen))
     ∷ []

@@ -8,8 +8,8 @@ use mathlib.Core.Bool.{Bool, true, false, _&&_}
 use mathlib.Core.List.{List, [], _∷_}
 use lib.ListN.{length}
 use lib.Dec.{leb, ltb, eqb, T}
-use borrow.Author.Tests.{leb-true, leb-false, ltb-true, ltb-false}
-use Rattle.rows.specs.Numbers.{rowValue}
+use borrow.Author.Tests.{leb-true, leb-false, ltb-true, ltb-false, eqb-true, eqb-false}
+use Rattle.rows.specs.Numbers.{rowValue, numberOf}
 use Rattle.rows.specs.declared.Chart.{Chart}
 use Rattle.search.specs.First.{FirstAt, AllPass, first-or-none, first-none, first-at}
 use Rattle.game.specs.Value.{Value}
@@ -18,7 +18,7 @@ use Rattle.game.specs.Fault.{legalAs}
 use Rattle.game.specs.ConditionTests.{legal-test}
 use Rattle.refusal.specs.declared.Misdrawn.{Misdrawn}
 use Rattle.refusal.specs.declared.Refusal.{Refusal}
-use Rattle.refusal.specs.declared.Refusal.the-variants.{Chart as OfChart, Plate, Position, Fault, Move, Seen}
+use Rattle.refusal.specs.declared.Refusal.the-variants.{Chart as OfChart, Plate, Position, Fault, Held, Move, Seen}
 use Rattle.chart.specs.Meaning.{arenaOf}
 use Rattle.chart.specs.Examined.{examined}
 use Rattle.chart.specs.Exact.{refused-exactly, accepted-exactly}
@@ -60,7 +60,7 @@ use Rattle.moves.specs.MoveLaws.{kind-exactly}
 use Rattle.moves.specs.declared.Kind.{Kind}
 use Rattle.moves.specs.declared.Kind.the-variants.{Meant, Disturbance, Neither}
 use Rattle.run.specs.Running.{adviceAt, begunAt, moved, started, reported}
-use Rattle.run.specs.Answers.{Readable, Moves, ReportIs, ReportRefused as ReportRefusedIs}
+use Rattle.run.specs.Answers.{Stands, Moves, ReportIs, ReportRefused as ReportRefusedIs}
 use Rattle.run.specs.AnswersExact.{start-exactly, report-exactly}
 use Rattle.run.specs.declared.Run.{Run}
 use Rattle.run.specs.declared.Advice.{Advice}
@@ -95,6 +95,9 @@ three-short same values choices steps = both-test _ _ (short-test values same) (
 
 inside-test : (v n : ℕ) → Tests (ltb v n) (n ≤ v)
 inside-test v n = (λ e l. omega (arith, ltb-true v n e), λ e. ltb-false v n e)
+
+same-test : (x y : ℕ) → Tests (eqb x y) (x ≡ y → ⊥)
+same-test x y = (λ e apart. apart (eqb-true x y e), λ e. eqb-false x y e)
 
 both-true : (b c : Bool) → (b && c) ≡ true → (b ≡ true) × (c ≡ true)
 both-true true c e = (refl, e)
@@ -344,7 +347,7 @@ module _ (run : Run) (text plate : List ℕ) (to : ℕ) where
   says : (k : Kind) → (kind ≡ k) ↔ MoveIs run text plate to k
   says k = kind-exactly (arenaOf text) (choiceIn plate (run .position)) (run .position) to k
 
-  -- 15 and 16, of a move within the chart
+  -- 15 and 16, of a move on an accepted plate with the held value
   move-rows : ((k : Kind) → kind ≡ k → Moves run text plate to k)
       → Settled answer ReportRefused (only Move (MoveIs run text plate to Neither) ∷ only Seen (MoveIs run text plate to Disturbance × (99999 ≤ run .seen)) ∷ [])
   move-rows moves = go kind refl
@@ -358,11 +361,11 @@ module _ (run : Run) (text plate : List ℕ) (to : ℕ) where
           row-fails (λ x y e. cc) (λ y h. apart e (says Neither .1 (h .1)) (λ q. let z : _≡_ {A = ℕ} 0 1 = cc in omega arith))
           (test-row (λ x y e. cc) (ltb (run .seen) 99999) (λ b h. omega (arith, ltb-true (run .seen) 99999 b, h .1), λ b. (says Disturbance .0 e, ltb-false (run .seen) 99999 b))
           (λ b. refused-by Seen (moves Disturbance e, ltb-false (run .seen) 99999 b))
-          (λ b. no-rows (λ x y e. cc) (taken-by (moved run to (run .seen + 1)) (adviceAt plate to) (inr (moves Disturbance e, ltb-true (run .seen) 99999 b, refl), refl))))
+          (λ b. no-rows (λ x y e. cc) (taken-by (moved run to (run .seen + 1) (numberOf (valueIn plate to))) (adviceAt plate to) (inr (moves Disturbance e, ltb-true (run .seen) 99999 b, refl), refl))))
       go Meant e =
           row-fails (λ x y e. cc) (λ y h. apart e (says Neither .1 (h .1)) (λ q. let z : _≡_ {A = ℕ} 0 1 = cc in omega arith))
           (row-fails (λ x y e. cc) (λ y h. apart e (says Disturbance .1 (h .1 .0)) (λ q. let z : _≡_ {A = ℕ} 0 1 = cc in omega arith))
-          (no-rows (λ x y e. cc) (taken-by (moved run to (run .seen)) (adviceAt plate to) (inl (moves Meant e, refl), refl))))
+          (no-rows (λ x y e. cc) (taken-by (moved run to (run .seen) (numberOf (valueIn plate to))) (adviceAt plate to) (inl (moves Meant e, refl), refl))))
 
   report-settled : Settled answer ReportRefused (reportRows run text plate to)
   report-settled =
@@ -371,13 +374,18 @@ module _ (run : Run) (text plate : List ℕ) (to : ℕ) where
       (λ chart e.
       form-row (λ x y e. cc) text plate chart e (λ line f. refused-by (Plate line) (record { chart = chart; taken = e; bad = bad-line-exact (chart .positions) line plate .0 f }))
       (λ f.
-      let readable : Readable text plate = record { chart = chart; taken = e; form = form-exact (chart .positions) plate .0 f } in
+      let form = form-exact (chart .positions) plate .0 f in
       let test = both-test (ltb (run .position) n) (ltb to n) (inside-test (run .position) n) (inside-test to n) in
-      test-row (λ x y e. cc) (ltb (run .position) n && ltb to n) test (λ b. refused-by Position (readable, test .1 b))
+      test-row (λ x y e. cc) (ltb (run .position) n && ltb to n) test (λ b. refused-by Position (record { chart = chart; taken = e; form = form }, test .1 b))
       (λ b.
       let here = ltb-true (run .position) n (both-true (ltb (run .position) n) (ltb to n) b .0) in
       let there = ltb-true to n (both-true (ltb (run .position) n) (ltb to n) b .1) in
-      move-rows (λ k g. record { readable = readable; own = here; inside = there; kind = g }))))
+      fault-row (λ x y e. cc) text plate (λ v c g. refused-by (Fault v c) (verdict-means text plate chart e form (FaultAt v c) g, here, there))
+      (λ g.
+      let stands : Stands run text plate to = record { accepted = verdict-means text plate chart e form Sound g; own = here; inside = there } in
+      let number = numberOf (valueIn plate (run .position)) in
+      test-row (λ x y e. cc) (eqb number (run .value)) (same-test number (run .value)) (λ c. refused-by Held (stands, eqb-false number (run .value) c))
+      (λ c. move-rows (λ k h. record { stands = stands; holds = eqb-true number (run .value) c; kind = h }))))))
 
   -- "the run comes back unchanged"
   report-unmoved : (x : Refusal) → answer ≡ ReportRefused x → reported run text plate to .run ≡ run

@@ -1,9 +1,10 @@
-// Runs: a start or a report, `A` with position, disturbances seen, starting value, choice and value; or `R`, number and line, for a start
-// the fault's position and condition, for a report the run's three numbers. A step is a letter and fields: `S` and a position, a start; `G`
-// and a target, a report of the run that the case before left; `T`, a target, a position and a count, the same after so many reports of
-// the target and the position in turn. `max` is the largest number.
+// Runs: a start or a report, `A` with the run's position, disturbances seen, starting value and held value, then choice and value; or `R`,
+// number and line, for 14 the fault's position and condition, for a report the run's four numbers. A step is a letter and fields: `S` and a
+// position, a start; `G` and a target, a report of the run that the case before left, with the case's own texts; `T`, a target, a position
+// and a count, the same after so many reports of the target and the position in turn. `max` is the largest number.
 use field::Field;
 use field::read;
+use refusal::Refusal;
 use run::Advice;
 use run::Answer;
 use run::Run;
@@ -57,12 +58,7 @@ fn start(chart: &[u8], plate: &[u8], position: usize) -> Run {
     match Run::start(chart, plate, position) {
         Started::Begun(run, advice) => taken(run, advice),
         Started::Refused(refusal) => {
-            let r = refusal.numbers();
-            refused(r.number, r.line);
-            if r.number == 14 {
-                show(r.position as u64);
-                show(r.condition as u64);
-            }
+            refused(refusal);
             Run::none()
         }
     }
@@ -76,8 +72,7 @@ fn report(run: Run, chart: &[u8], plate: &[u8], to: usize) -> Run {
     match answer {
         Answer::Taken(advice) => taken(after, advice),
         Answer::Refused(refusal) => {
-            let r = refusal.numbers();
-            refused(r.number, r.line);
+            refused(refusal);
             show_run(after);
             after
         }
@@ -92,16 +87,22 @@ fn taken(run: Run, advice: Advice) -> Run {
     run
 }
 
-fn refused(code: u32, line: usize) {
+fn refused(refusal: Refusal) {
+    let r = refusal.numbers();
     io::write_all(1, b"R");
-    show(code as u64);
-    show(line as u64);
+    show(r.number as u64);
+    show(r.line as u64);
+    if r.number == 14 {
+        show(r.position as u64);
+        show(r.condition as u64);
+    }
 }
 
 fn show_run(run: Run) {
     show(run.position() as u64);
     show(run.seen() as u64);
     show(run.initial() as u64);
+    show(run.value() as u64);
 }
 
 fn show(x: u64) {

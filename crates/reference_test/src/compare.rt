@@ -321,7 +321,7 @@ fn change_plate(
 }
 
 // Two changes of each of the three entries of a line, then of the first line's; none from there on.
-fn change(table: &mut Table, n: usize, code: usize) {
+pub fn change(table: &mut Table, n: usize, code: usize) {
     let v = code / 6;
     let column = code / 2 % 3;
     if v < n {

@@ -1,13 +1,18 @@
 // Holds the library's answers against another implementation of document 01's definitions, on every chart of one and two positions and
 // on pseudo-random ones up to the largest size. It writes what was compared, a line for each kind of chart, and each comparison that
 // fails with its chart. Some kinds come again with marks left blank, by draws of their own: the numbers must be the same. Then come charts
-// with positions of rest, whose count stands in the line. Nothing but the jobs that are compared is shared with the library.
+// with positions of rest, whose count stands in the line, and runs whose texts change. Nothing but the jobs that are compared is shared with
+// the library.
 use crate::compare::RESTS;
 use crate::compare::Tally;
 use crate::compare::compare_chart;
 use crate::generate::Blanks;
+use crate::generate::below;
 use crate::generate::blank_marks;
 use crate::generate::build;
+use crate::reports::COUNTED;
+use crate::reports::Card;
+use crate::reports::compare_run;
 use crate::sheet::RIGHT;
 use crate::sheet::cell;
 
@@ -16,6 +21,7 @@ mod compare;
 mod definition;
 mod generate;
 mod listed;
+mod reports;
 mod sheet;
 mod text;
 
@@ -42,6 +48,7 @@ fn main() {
     some(b"20 to 59 positions, targets near", 6, 60, 50);
     some(b"512 positions, 4,096 moves", 7, 20, 50);
     some_resting();
+    some_swapped();
 }
 
 // Charts with positions of rest. By the numbers come two of one position and four of two that have no move: they are left out. Of three
@@ -65,6 +72,51 @@ fn some_resting() {
     some(b"3 to 8 positions, some of rest", 14, 1000, 50);
 }
 
+// Runs of twelve reports, each lent the texts of one of two charts of the kind.
+fn some_swapped() {
+    io::write_all(
+        1,
+        b"runs begun and not begun; reports taken as meant and as disturbances, refused with 13, 14, 18 and 15; taken with other texts than the last\n",
+    );
+    runs(b"every chart of 1 position", 0, 6);
+    runs(b"every chart of 2 positions", 1, 900);
+    runs(b"every chart of 2 positions, some of rest", 11, 544);
+    runs(b"3 positions", 9, 1000);
+    runs(b"3 positions, some of rest", 19, 1000);
+    runs(b"3 to 8 positions", 4, 1000);
+    runs(b"3 to 8 positions, some of rest", 14, 1000);
+    runs(b"20 to 59 positions", 5, 60);
+    runs(b"20 to 59 positions, targets near, some of rest", 16, 60);
+    runs(b"512 positions, targets near", 8, 2);
+}
+
+// Runs on charts of a kind: on the one of each number, and another.
+fn runs(name: &[u8], kind: usize, charts: usize) {
+    let mut tally = [0usize; 19];
+    let mut seed = 1;
+    let mut i = 0;
+    while i < charts {
+        let first = card(kind, i, &mut seed);
+        let other = below(&mut seed, charts);
+        let second = card(kind, other, &mut seed);
+        compare_run(first, second, &mut seed, &mut tally);
+        i += 1;
+    }
+    report(&tally, COUNTED);
+    io::write_all(1, name);
+    report_count(b", mismatches: ", tally[17]);
+    io::write_all(1, b"\n");
+}
+
+fn card(kind: usize, number: usize, seed: &mut usize) -> Card {
+    let from = below(seed, 1000000);
+    Card {
+        kind,
+        number,
+        seed: from,
+    }
+}
+
 // Charts of a kind, in which so many of a hundred marks 0 are blank.
 fn some(name: &[u8], kind: usize, charts: usize, share: usize) {
     let mut tally = [0usize; 19];
@@ -75,7 +127,7 @@ fn some(name: &[u8], kind: usize, charts: usize, share: usize) {
         compare_built(kind, i, share, &mut seed, &mut blanks, &mut tally);
         i += 1;
     }
-    report(&tally);
+    report(&tally, 18);
     io::write_all(1, name);
     report_count(b": ", tally[RESTS]);
     report_count(b", marks blank: ", blanks[1]);
@@ -100,10 +152,11 @@ fn compare_built(
     compare_chart(&chart, seed, tally);
 }
 
-fn report(tally: &Tally) {
+// The first counts.
+fn report(tally: &Tally, counts: usize) {
     let mut k: usize = 0;
-    while k < 18 {
-        io::print_decimal(1, tally[k] as u64);
+    while k < counts {
+        io::print_decimal(1, tally[k % 19] as u64);
         io::write_all(1, b" ");
         k += 1;
     }

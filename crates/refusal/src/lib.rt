@@ -17,7 +17,8 @@ pub enum Misdrawn {
     NoMeant(usize),
 }
 
-// The table: a chart's refusal, then 10 to 16. 11 has the plate's line, 14 the fault's position and condition.
+// The table: a chart's refusal, then 10 to 16 and 18 in the order of their tests. 11 has the plate's line, 14 the fault's position and
+// condition. 18 is tested between 14 and 15 (document 02, order 5).
 pub enum Refusal {
     Chart(Misdrawn),
     Short,
@@ -25,6 +26,7 @@ pub enum Refusal {
     Choice,
     Position,
     Fault(usize, u8),
+    Held,
     Move,
     Seen,
 }
@@ -98,6 +100,7 @@ impl Refusal {
             Refusal::Choice => 12,
             Refusal::Position => 13,
             Refusal::Fault(_, _) => 14,
+            Refusal::Held => 18,
             Refusal::Move => 15,
             Refusal::Seen => 16,
         }
@@ -113,6 +116,7 @@ impl Refusal {
             Refusal::Choice => 0,
             Refusal::Position => 0,
             Refusal::Fault(_, _) => 0,
+            Refusal::Held => 0,
             Refusal::Move => 0,
             Refusal::Seen => 0,
         }
@@ -128,6 +132,7 @@ impl Refusal {
             Refusal::Choice => 0,
             Refusal::Position => 0,
             Refusal::Fault(position, _) => position,
+            Refusal::Held => 0,
             Refusal::Move => 0,
             Refusal::Seen => 0,
         }
@@ -143,6 +148,7 @@ impl Refusal {
             Refusal::Choice => 0,
             Refusal::Position => 0,
             Refusal::Fault(_, condition) => condition,
+            Refusal::Held => 0,
             Refusal::Move => 0,
             Refusal::Seen => 0,
         }

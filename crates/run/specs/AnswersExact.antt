@@ -1,34 +1,36 @@
 -- Each answer is given exactly when its condition holds. Forward, by cases on the chart's examination, the plate's form, the two
--- tests of positions and the kind; backward, the condition settles each of these in turn.
+-- tests of positions, the first fault, the held value and the kind; backward, the condition settles each of these in turn.
 use Prim.Native.Nat.{ℕ, _+_, _<_}
 use mathlib.Core.Path.{_≡_, refl, ap, subst, _∙_}
 use mathlib.Core.Logic.{_↔_, inl, inr}
 use mathlib.Core.Bool.{Bool, true, false, cond}
 use mathlib.Core.List.{List}
 use native.Mathlib.Omega.{arith}
-use lib.Dec.{ltb}
-use borrow.Author.Tests.{ltb-true, ltb-false, lt-ltb, le-ltb}
+use lib.Dec.{eqb, ltb}
+use borrow.Author.Tests.{ltb-true, ltb-false, lt-ltb, le-ltb, eqb-true, eqb-false, eq-eqb, ne-eqb}
+use Rattle.rows.specs.Numbers.{numberOf}
 use Rattle.game.specs.Arena.{size}
 use Rattle.chart.specs.Meaning.{arenaOf}
 use Rattle.chart.specs.Examined.{examined}
 use Rattle.chart.specs.Accepted.{accepted-few, accepted-size}
 use Rattle.rows.specs.declared.Chart.{Chart}
 use Rattle.refusal.specs.declared.Refusal.{Refusal}
-use Rattle.refusal.specs.declared.Refusal.the-variants.{Chart as OfChart, Short, Plate, Choice, Position, Fault, Move, Seen}
+use Rattle.refusal.specs.declared.Refusal.the-variants.{Chart as OfChart, Short, Plate, Choice, Position, Fault, Held, Move, Seen}
 use Rattle.chart.specs.declared.Examination.{Examination}
 use Rattle.chart.specs.declared.Examination.the-variants.{Accepted as Taken, Refused as Turned}
 use Rattle.plate.specs.Exact.{bad-line-exact, form-exact}
 use Rattle.plate.specs.Formed.{formOf}
-use Rattle.plate.specs.Read.{choiceIn}
+use Rattle.plate.specs.Read.{valueIn, choiceIn}
 use Rattle.plate.specs.declared.Form.{Form as PlateForm}
 use Rattle.plate.specs.declared.Form.the-variants.{Good, Bad}
+use Rattle.checking.specs.Answers.{AcceptedIs, FaultIs}
 use Rattle.checking.specs.Checking.{plateVerdict}
 use Rattle.checking.specs.AnswersExact.{accepted-sound, faulty-at, verdict-means}
 use Rattle.verdict.specs.declared.Verdict.{Verdict}
 use Rattle.verdict.specs.declared.Verdict.the-variants.{Sound, Fault as FaultAt}
 use Rattle.moves.specs.Moves.{moveKind}
-use Rattle.run.specs.Running.{moved, noRun, reported, reportedBy, reportedForm, reportedInside, reportedMove, standing, started, startedBy, startedForm, startedInside, startedVerdict, unmoved}
-use Rattle.run.specs.Answers.{Moves, Readable, ReportIs, ReportRefused, StartIs, StartRefused}
+use Rattle.run.specs.Running.{noRun, reported, reportedBy, reportedForm, reportedInside, reportedMove, reportedAccepted, reportedVerdict, standing, started, startedBy, startedForm, startedInside, startedVerdict, unmoved}
+use Rattle.run.specs.Answers.{Holds, Moves, Readable, ReportIs, ReportRefused, Stands, StartIs, StartRefused}
 use Rattle.moves.specs.declared.Kind.{Kind}
 use Rattle.moves.specs.declared.Kind.the-variants.{Meant, Disturbance, Neither}
 use Rattle.run.specs.declared.Run.{Run}
@@ -38,36 +40,58 @@ use Rattle.run.specs.declared.Answer.{Answer}
 use Rattle.run.specs.declared.Answer.the-variants.{Taken as Went, Refused as Declined}
 use Rattle.run.specs.declared.Reported.{Reported}
 
+module _ {text plate : List ℕ} where
+  accepted-readable : AcceptedIs text plate → Readable text plate
+  accepted-readable is = record { chart = is .chart; taken = is .taken; form = is .form }
+
+  faulty-readable : {v c : ℕ} → FaultIs text plate v c → Readable text plate
+  faulty-readable is = record { chart = is .chart; taken = is .taken; form = is .form }
+
 module _ (run : Run) (text plate : List ℕ) (to : ℕ) where
   abbrev kind : Kind
   kind = moveKind (arenaOf text) (choiceIn plate (run .position)) (run .position) to
+
+  abbrev here : ℕ
+  here = numberOf (valueIn plate (run .position))
 
   abbrev Is : Reported → Type 0
   Is r = ReportIs run text plate to (r .run) (r .answer)
 
   -- forward
-  module _ (readable : Readable text plate) where
-    module _ (own : run .position < size (arenaOf text)) (inside : to < size (arenaOf text)) where
-      moves : (k : Kind) → kind ≡ k → Moves run text plate to k
-      moves k e = record { readable = readable; own = own; inside = inside; kind = e }
+  module _ (stands : Stands run text plate to) where
+    of-kind : Holds run plate → (k : Kind) → kind ≡ k → Is (reportedMove run plate to k)
+    unfolding reportedMove standing unmoved
+    of-kind holds Meant e = (inl (record { stands = stands; holds = holds; kind = e }, refl), refl)
+    of-kind holds Neither e = (record { stands = stands; holds = holds; kind = e }, refl)
+    of-kind holds Disturbance e = go (ltb (run .seen) 99999) refl
+      where
+        go : (b : Bool) → ltb (run .seen) 99999 ≡ b → Is (cond b (standing run plate to (run .seen + 1)) (unmoved run Seen))
+        go true h = (inr (record { stands = stands; holds = holds; kind = e }, ltb-true (run .seen) 99999 h, refl), refl)
+        go false h = ((record { stands = stands; holds = holds; kind = e }, ltb-false (run .seen) 99999 h), refl)
 
-      of-kind : (k : Kind) → kind ≡ k → Is (reportedMove run plate to k)
-      unfolding reportedMove standing unmoved moved
-      of-kind Meant e = (inl (moves Meant e, refl), refl)
-      of-kind Neither e = (moves Neither e, refl)
-      of-kind Disturbance e = go (ltb (run .seen) 99999) refl
-        where
-          go : (b : Bool) → ltb (run .seen) 99999 ≡ b → Is (cond b (standing plate (moved run to (run .seen + 1))) (unmoved run Seen))
-          go true h = (inr (moves Disturbance e, ltb-true (run .seen) 99999 h, refl), refl)
-          go false h = ((moves Disturbance e, ltb-false (run .seen) 99999 h), refl)
+    of-accepted : Is (reportedAccepted run (arenaOf text) plate to)
+    unfolding reportedAccepted unmoved
+    of-accepted = go (eqb here (run .value)) refl
+      where
+        go : (b : Bool) → eqb here (run .value) ≡ b → Is (cond b (reportedMove run plate to kind) (unmoved run Held))
+        go true h = of-kind (eqb-true here (run .value) h) kind refl
+        go false h = ((stands, eqb-false here (run .value) h), refl)
+
+  module _ (readable : Readable text plate) where
+    of-verdict : run .position < size (arenaOf text) → to < size (arenaOf text) → (r : Verdict) → plateVerdict (arenaOf text) plate ≡ r
+        → Is (reportedVerdict run (arenaOf text) plate to r)
+    unfolding reportedVerdict unmoved
+    of-verdict own inside Sound e =
+        of-accepted (record { accepted = verdict-means text plate (readable .chart) (readable .taken) (readable .form) Sound e; own = own; inside = inside })
+    of-verdict own inside (FaultAt v c) e = ((verdict-means text plate (readable .chart) (readable .taken) (readable .form) (FaultAt v c) e, own, inside), refl)
 
     of-form : Is (reportedInside run (arenaOf text) plate to)
     unfolding reportedInside unmoved
     of-form = go (ltb (run .position) (size (arenaOf text))) (ltb to (size (arenaOf text))) refl refl
       where
         go : (p q : Bool) → ltb (run .position) (size (arenaOf text)) ≡ p → ltb to (size (arenaOf text)) ≡ q
-            → Is (cond p (cond q (reportedMove run plate to kind) (unmoved run Position)) (unmoved run Position))
-        go true true h k = of-kind (ltb-true _ _ h) (ltb-true _ _ k) kind refl
+            → Is (cond p (cond q (reportedVerdict run (arenaOf text) plate to (plateVerdict (arenaOf text) plate)) (unmoved run Position)) (unmoved run Position))
+        go true true h k = of-verdict (ltb-true _ _ h) (ltb-true _ _ k) (plateVerdict (arenaOf text) plate) refl
         go true false h k = ((readable, inr (ltb-false _ _ k)), refl)
         go false q h k = ((readable, inl (ltb-false _ _ h)), refl)
 
@@ -90,30 +114,44 @@ module _ (run : Run) (text plate : List ℕ) (to : ℕ) where
   unfolding reported reportedBy reportedForm
   readable-report w = rw (w .taken, form-exact (w .chart .positions) plate .1 (w .form))
 
-  moved-report : (k : Kind) → Moves run text plate to k → reported run text plate to ≡ reportedMove run plate to k
+  inside-report : Readable text plate → run .position < size (arenaOf text) → to < size (arenaOf text) → (r : Verdict) → plateVerdict (arenaOf text) plate ≡ r
+      → reported run text plate to ≡ reportedVerdict run (arenaOf text) plate to r
   unfolding reportedInside
-  moved-report k w =
-      readable-report (w .readable)
-      ∙ rw (lt-ltb (run .position) (size (arenaOf text)) (w .own), lt-ltb to (size (arenaOf text)) (w .inside)) (ap (reportedMove run plate to) (w .kind))
+  inside-report w own inside r e =
+      readable-report w
+      ∙ rw (lt-ltb (run .position) (size (arenaOf text)) own, lt-ltb to (size (arenaOf text)) inside) (ap (reportedVerdict run (arenaOf text) plate to) e)
+
+  accepted-report : Stands run text plate to → reported run text plate to ≡ reportedAccepted run (arenaOf text) plate to
+  unfolding reportedVerdict
+  accepted-report w = inside-report (accepted-readable (w .accepted)) (w .own) (w .inside) Sound (accepted-sound text plate (w .accepted))
+
+  moved-report : (k : Kind) → Moves run text plate to k → reported run text plate to ≡ reportedMove run plate to k
+  unfolding reportedAccepted
+  moved-report k w = accepted-report (w .stands) ∙ rw (eq-eqb here (run .value) (w .holds)) (ap (reportedMove run plate to) (w .kind))
 
   refusal-from : (x : Refusal) → ReportRefused run text plate to x → reported run text plate to ≡ unmoved run x
-  unfolding reported reportedBy reportedForm reportedInside reportedMove
+  unfolding reported reportedBy reportedForm reportedInside reportedVerdict reportedAccepted reportedMove
   refusal-from (OfChart r) h = rw h
   refusal-from (Plate line) w = rw (w .taken, bad-line-exact (w .chart .positions) line plate .1 (w .bad))
   refusal-from Position (w, inl l) = readable-report w ∙ rw (le-ltb (run .position) (size (arenaOf text)) l)
   refusal-from Position (w, inr l) = readable-report w ∙ go (ltb (run .position) (size (arenaOf text)))
     where
-      go : (b : Bool) → cond b (cond (ltb to (size (arenaOf text))) (reportedMove run plate to kind) (unmoved run Position)) (unmoved run Position) ≡ unmoved run Position
+      go : (b : Bool)
+          → cond b
+          (cond (ltb to (size (arenaOf text))) (reportedVerdict run (arenaOf text) plate to (plateVerdict (arenaOf text) plate)) (unmoved run Position))
+          (unmoved run Position)
+          ≡ unmoved run Position
       go true = rw (le-ltb to (size (arenaOf text)) l)
       go false = refl
+  refusal-from (Fault v c) (w, own, inside) = inside-report (faulty-readable w) own inside (FaultAt v c) (faulty-at text plate v c w)
+  refusal-from Held (w, apart) = accepted-report w ∙ rw (ne-eqb here (run .value) apart)
   refusal-from Move w = moved-report Neither w
   refusal-from Seen (w, l) = moved-report Disturbance w ∙ rw (le-ltb (run .seen) 99999 l)
   refusal-from Short is = absurd is
   refusal-from Choice is = absurd is
-  refusal-from (Fault v c) is = absurd is
 
   from : (after : Run) (r : Answer) → ReportIs run text plate to after r → reported run text plate to ≡ record { run = after; answer = r }
-  unfolding reportedMove standing unmoved moved
+  unfolding reportedMove standing unmoved
   from after (Went advice) (inl (w, e), z) = moved-report Meant w ∙ rw (e, z)
   from after (Went advice) (inr (w, l, e), z) = moved-report Disturbance w ∙ rw (lt-ltb (run .seen) 99999 l, e, z)
   from after (Declined x) (h, e) = refusal-from x h ∙ rw e
@@ -181,16 +219,17 @@ module _ (text plate : List ℕ) (position : ℕ) where
   start-refusal (OfChart r) h = rw h
   start-refusal (Plate line) w = rw (w .taken, bad-line-exact (w .chart .positions) line plate .1 (w .bad))
   start-refusal Position (w, l) = readable-start w ∙ rw (le-ltb position n l)
-  start-refusal (Fault v c) (is, l) = inside-start (record { chart = is .chart; taken = is .taken; form = is .form }) l (FaultAt v c) (faulty-at text plate v c is)
+  start-refusal (Fault v c) (is, l) = inside-start (faulty-readable is) l (FaultAt v c) (faulty-at text plate v c is)
   start-refusal Short is = absurd is
   start-refusal Choice is = absurd is
+  start-refusal Held is = absurd is
   start-refusal Move is = absurd is
   start-refusal Seen is = absurd is
 
   start-from : (r : Started) → StartIs text plate position r → started text plate position ≡ r
   unfolding startedVerdict
   start-from (Begun run advice) (is, l, e, z) =
-      inside-start (record { chart = is .chart; taken = is .taken; form = is .form }) l Sound (accepted-sound text plate is) ∙ rw (e, z)
+      inside-start (accepted-readable is) l Sound (accepted-sound text plate is) ∙ rw (e, z)
   start-from (Refused x) is = start-refusal x is
 
   pub start-exactly : (r : Started) → (started text plate position ≡ r) ↔ StartIs text plate position r

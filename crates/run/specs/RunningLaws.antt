@@ -1,23 +1,29 @@
 -- The answers to a start and to a report, one law for each way out.
 use Prim.Native.Nat.{ℕ, _≤_, _<_}
-use mathlib.Core.Path.{_≡_, sym, ap, _∙_}
+use mathlib.Core.Path.{_≡_, refl, sym, ap, _∙_}
 use mathlib.Core.List.{List}
-use borrow.Author.Tests.{lt-ltb, le-ltb}
+use borrow.Author.Tests.{lt-ltb, le-ltb, eq-eqb, ne-eqb}
 use Rattle.rows.specs.Rows.{RowsOf}
 use Rattle.rows.specs.Numbers.{numberOf}
+use Rattle.game.specs.Arena.{Arena}
 use Rattle.chart.specs.Meaning.{arenaOf}
 use Rattle.chart.specs.Examined.{examined}
 use Rattle.rows.specs.declared.Chart.{Chart}
 use Rattle.refusal.specs.declared.Misdrawn.{Misdrawn}
-use Rattle.refusal.specs.declared.Refusal.the-variants.{Chart as OfChart, Plate, Position}
+use Rattle.refusal.specs.declared.Refusal.{Refusal}
+use Rattle.refusal.specs.declared.Refusal.the-variants.{Chart as OfChart, Position, Held}
 use Rattle.chart.specs.declared.Examination.the-variants.{Accepted as Taken, Refused as Turned}
 use Rattle.plate.specs.Formed.{formOf}
-use Rattle.plate.specs.Read.{choiceIn}
+use Rattle.plate.specs.Read.{valueIn, choiceIn}
+use Rattle.plate.specs.declared.Form.{Form as PlateForm}
 use Rattle.plate.specs.declared.Form.the-variants.{Good, Bad}
 use Rattle.verdict.specs.declared.Verdict.{Verdict}
-use Rattle.checking.specs.Checking.{FormedIs}
+use Rattle.verdict.specs.declared.Verdict.the-variants.{Sound, Fault as FaultAt}
+use Rattle.checking.specs.Checking.{PlateIs, answerOf, plateChecked, plateVerdict}
+use Rattle.checking.specs.declared.Checked.{Checked}
+use Rattle.checking.specs.declared.Checked.the-variants.{Accepted, Refused as NotAccepted}
 use Rattle.moves.specs.Moves.{KindIs}
-use Rattle.run.specs.Running.{FormedReport, FormedStart, RowsReport, RowsStart, adviceAt, reported, reportedBy, reportedForm, reportedInside, reportedMove, started, startedBy, startedForm, startedInside, startedVerdict, unmoved}
+use Rattle.run.specs.Running.{AcceptedReport, RowsReport, RowsStart, adviceAt, begunAt, offChart, reported, reportedBy, reportedForm, reportedInside, reportedMove, reportedAccepted, reportedVerdict, started, startedBy, startedForm, startedInside, startedVerdict, unmoved}
 use Rattle.moves.specs.declared.Kind.{Kind}
 use Rattle.run.specs.declared.Run.{Run}
 use Rattle.run.specs.declared.Advice.{Advice}
@@ -27,25 +33,33 @@ use Rattle.run.specs.declared.Reported.{Reported}
 
 -- Start
 
+-- by Checking's answer, where the position is on the chart
+unfoldable pub startedChecked : List ℕ → ℕ → Checked → Started
+startedChecked plate position Accepted = begunAt plate position
+startedChecked plate position (NotAccepted x) = Refused x
+
 module _ {n m : ℕ} {owners marks costs froms tos : List ℕ} (plate : List ℕ) (position : ℕ) where
-  pub start-outside : n ≤ position → FormedStart n m owners marks costs froms tos plate position (Refused Position)
-  unfolding startedInside
-  start-outside l = record { answer = λ a d. rw (d .positions, le-ltb position n l) }
+  pub start-outside : n ≤ position → RowsStart n m owners marks costs froms tos plate position (Refused (offChart (formOf n plate)))
+  unfolding startedForm startedInside offChart
+  start-outside l = record { answer = λ a d. go a d (formOf n plate) }
+    where
+      go : (a : Arena) → RowsOf a n m owners marks costs froms tos → (f : PlateForm) → Refused (offChart f) ≡ startedForm a plate position f
+      go a d (Bad line) = refl
+      go a d Good = rw (d .positions, le-ltb position n l)
 
-  pub start-inside : position < n → {r v : Verdict} {s : Started} → FormedIs n m owners marks costs froms tos plate r → r ≡ v → s ≡ startedVerdict plate position v
-      → FormedStart n m owners marks costs froms tos plate position s
-  unfolding startedInside
+  pub start-inside : position < n → {c k : Checked} {s : Started} → PlateIs n m owners marks costs froms tos plate c → c ≡ k → s ≡ startedChecked plate position k
+      → RowsStart n m owners marks costs froms tos plate position s
+  unfolding startedForm startedInside startedChecked startedVerdict plateChecked
   start-inside l is e z =
-      record { answer = λ a d. z ∙ rw (d .positions, lt-ltb position n l) (ap (startedVerdict plate position) (sym e ∙ is .verdict a d)) }
+      record { answer = λ a d. z ∙ ap (startedChecked plate position) (sym e ∙ is .answer a d) ∙ go a d (formOf n plate) }
+    where
+      by : (r : Verdict) → startedChecked plate position (answerOf r) ≡ startedVerdict plate position r
+      by Sound = refl
+      by (FaultAt v c) = refl
 
-  pub bad-start : {line : ℕ} → formOf n plate ≡ Bad line → RowsStart n m owners marks costs froms tos plate position (Refused (Plate line))
-  unfolding startedForm
-  bad-start e = record { answer = λ a d. rw e }
-
-  pub formed-start : {r : Started} → formOf n plate ≡ Good → FormedStart n m owners marks costs froms tos plate position r
-      → RowsStart n m owners marks costs froms tos plate position r
-  unfolding startedForm
-  formed-start e h = record { answer = λ a d. h .answer a d ∙ rw e }
+      go : (a : Arena) → RowsOf a n m owners marks costs froms tos → (f : PlateForm) → startedChecked plate position (plateChecked a plate f) ≡ startedForm a plate position f
+      go a d (Bad line) = refl
+      go a d Good = rw (d .positions, lt-ltb position n l) (by (plateVerdict a plate))
 
 pub start-refused : (text plate : List ℕ) (position : ℕ) (r : Misdrawn) → examined text ≡ Turned r → Refused (OfChart r) ≡ started text plate position
 unfolding started startedBy
@@ -59,38 +73,77 @@ start-taken text plate position chart e d h = h .answer (arenaOf text) d ∙ rw 
 
 -- Report
 
--- the choice of the advice is the plate's
+-- the advice's numbers are the plate's
 pub choice-of : (plate : List ℕ) (v : ℕ) {advice : Advice} → advice ≡ adviceAt plate v → advice .choice ≡ numberOf (choiceIn plate v)
 unfolding adviceAt
 choice-of plate v e = ap (λ (x : Advice). x .choice) e
 
+pub value-of : (plate : List ℕ) (v : ℕ) {advice : Advice} → advice ≡ adviceAt plate v → advice .value ≡ numberOf (valueIn plate v)
+unfolding adviceAt
+value-of plate v e = ap (λ (x : Advice). x .value) e
+
 module _ {n m : ℕ} {owners costs froms tos : List ℕ} (run : Run) (plate : List ℕ) (to : ℕ) where
-  pub own-outside : n ≤ run .position → FormedReport n m owners costs froms tos run plate to (unmoved run Position)
+  pub not-held : {number : ℕ} → (number ≡ run .value → ⊥) → number ≡ numberOf (valueIn plate (run .position))
+      → AcceptedReport n m owners costs froms tos run plate to (unmoved run Held)
+  unfolding reportedAccepted
+  not-held apart e = record { answer = λ a marks d. rw (ne-eqb (numberOf (valueIn plate (run .position))) (run .value) (λ same. apart (e ∙ same))) }
+
+  pub held-report : {number value : ℕ} {found k : Kind} {r : Reported} → value ≡ run .value → value ≡ numberOf (valueIn plate (run .position))
+      → KindIs n m owners costs froms tos number (run .position) to found → number ≡ numberOf (choiceIn plate (run .position)) → found ≡ k
+      → r ≡ reportedMove run plate to k → AcceptedReport n m owners costs froms tos run plate to r
+  unfolding reportedAccepted
+  held-report held e kind z told is =
+      record {
+        answer = λ a marks d.
+            is ∙ rw (eq-eqb (numberOf (valueIn plate (run .position))) (run .value) (sym e ∙ held))
+            (ap (reportedMove run plate to) (sym told ∙ kind .answer a marks d (choiceIn plate (run .position)) z));
+      }
+
+-- by Checking's answer, where both positions are on the chart
+unfoldable reportedChecked : Run → Arena → List ℕ → ℕ → Checked → Reported
+reportedChecked run a plate to Accepted = reportedAccepted run a plate to
+reportedChecked run a plate to (NotAccepted x) = unmoved run x
+
+module _ {n m : ℕ} {owners marks costs froms tos : List ℕ} (run : Run) (plate : List ℕ) (to : ℕ) where
+  -- where a position is not on the chart, by the plate's form
+  outside : ((a : Arena) → RowsOf a n m owners marks costs froms tos → unmoved run Position ≡ reportedInside run a plate to)
+      → RowsReport n m owners marks costs froms tos run plate to (unmoved run (offChart (formOf n plate)))
+  unfolding reportedForm offChart
+  outside is = record { answer = λ a d. go a d (formOf n plate) }
+    where
+      go : (a : Arena) → RowsOf a n m owners marks costs froms tos → (f : PlateForm) → unmoved run (offChart f) ≡ reportedForm run a plate to f
+      go a d (Bad line) = refl
+      go a d Good = is a d
+
+  pub own-outside : n ≤ run .position → RowsReport n m owners marks costs froms tos run plate to (unmoved run (offChart (formOf n plate)))
   unfolding reportedInside
-  own-outside l = record { answer = λ a marks d. rw (d .positions, le-ltb (run .position) n l) }
+  own-outside l = outside (λ a d. rw (d .positions, le-ltb (run .position) n l))
 
   module _ (own : run .position < n) where
-    pub to-outside : n ≤ to → FormedReport n m owners costs froms tos run plate to (unmoved run Position)
+    pub to-outside : n ≤ to → RowsReport n m owners marks costs froms tos run plate to (unmoved run (offChart (formOf n plate)))
     unfolding reportedInside
-    to-outside l = record { answer = λ a marks d. rw (d .positions, lt-ltb (run .position) n own, le-ltb to n l) }
+    to-outside l = outside (λ a d. rw (d .positions, lt-ltb (run .position) n own, le-ltb to n l))
 
-    pub inside-report : to < n → {number : ℕ} {k : Kind} {r : Reported} → KindIs n m owners costs froms tos number (run .position) to k
-        → number ≡ numberOf (choiceIn plate (run .position)) → r ≡ reportedMove run plate to k → FormedReport n m owners costs froms tos run plate to r
-    unfolding reportedInside
-    inside-report l kind z e =
-        record {
-          answer = λ a marks d.
-              e ∙ rw (d .positions, lt-ltb (run .position) n own, lt-ltb to n l)
-              (ap (reportedMove run plate to) (kind .answer a marks d (choiceIn plate (run .position)) z));
-        }
+    module _ (inside : to < n) {c : Checked} (is : PlateIs n m owners marks costs froms tos plate c) where
+      by-answer : (k : Checked) → c ≡ k → (a : Arena) → RowsOf a n m owners marks costs froms tos → reportedChecked run a plate to k ≡ reportedForm run a plate to (formOf n plate)
+      unfolding reportedForm reportedInside reportedVerdict reportedChecked plateChecked
+      by-answer k e a d = ap (reportedChecked run a plate to) (sym e ∙ is .answer a d) ∙ go (formOf n plate)
+        where
+          by : (r : Verdict) → reportedChecked run a plate to (answerOf r) ≡ reportedVerdict run a plate to r
+          by Sound = refl
+          by (FaultAt v c) = refl
 
-  pub bad-report : {line : ℕ} → formOf n plate ≡ Bad line → RowsReport n m owners costs froms tos run plate to (unmoved run (Plate line))
-  unfolding reportedForm
-  bad-report e = record { answer = λ a marks d. rw e }
+          go : (f : PlateForm) → reportedChecked run a plate to (plateChecked a plate f) ≡ reportedForm run a plate to f
+          go (Bad line) = refl
+          go Good = rw (d .positions, lt-ltb (run .position) n own, lt-ltb to n inside) (by (plateVerdict a plate))
 
-  pub formed-report : {r : Reported} → formOf n plate ≡ Good → FormedReport n m owners costs froms tos run plate to r → RowsReport n m owners costs froms tos run plate to r
-  unfolding reportedForm
-  formed-report e h = record { answer = λ a marks d. h .answer a marks d ∙ rw e }
+      pub refused-report : (x : Refusal) → c ≡ NotAccepted x → RowsReport n m owners marks costs froms tos run plate to (unmoved run x)
+      unfolding reportedChecked
+      refused-report x e = record { answer = by-answer (NotAccepted x) e }
+
+      pub accepted-report : {s : Reported} → c ≡ Accepted → AcceptedReport n m owners costs froms tos run plate to s → RowsReport n m owners marks costs froms tos run plate to s
+      unfolding reportedChecked
+      accepted-report e h = record { answer = λ a d. h .answer a marks d ∙ by-answer Accepted e a d }
 
 pub report-refused : (run : Run) (text plate : List ℕ) (to : ℕ) (r : Misdrawn) → examined text ≡ Turned r → unmoved run (OfChart r) ≡ reported run text plate to
 unfolding reported reportedBy
@@ -98,6 +151,6 @@ report-refused run text plate to r e = rw e
 
 pub report-taken : (run : Run) (text plate : List ℕ) (to : ℕ) (chart : Chart) {r : Reported} {owners marks costs froms tos : List ℕ} → examined text ≡ Taken chart
     → RowsOf (arenaOf text) (chart .positions) (chart .moves) owners marks costs froms tos
-    → RowsReport (chart .positions) (chart .moves) owners costs froms tos run plate to r → r ≡ reported run text plate to
+    → RowsReport (chart .positions) (chart .moves) owners marks costs froms tos run plate to r → r ≡ reported run text plate to
 unfolding reported reportedBy
-report-taken run text plate to chart {marks = marks} e d h = h .answer (arenaOf text) marks d ∙ rw e
+report-taken run text plate to chart e d h = h .answer (arenaOf text) d ∙ rw e

@@ -1,13 +1,15 @@
-// The run (document 01, "The jobs"): it begins by the start job, which wants an accepted plate, and each report moves it on.
+// The run (document 01, "The run", and document 02, order 5): it begins by the start job, which wants an accepted plate, and each report
+// moves it on, on an accepted plate that has the value that the run holds.
 ghost use mathlib.Core.Path.{_≡_};
 ghost use mathlib.Core.List.{List};
 ghost use Prim.Native.Nat.{ℕ, _≤_, _<_};
 ghost use Rattle.rows.specs.Rows.{ChartRows};
 ghost use Rattle.plate.specs.Formed.{formOf};
 ghost use Rattle.verdict.specs.Sheet.{Ascending};
-ghost use Rattle.run.specs.Running.{FormedReport, FormedStart, RowsReport, RowsStart, adviceAt, begunAt, moved, noRun, reported, standing, started, unmoved};
+ghost use Rattle.run.specs.Running.{AcceptedReport, RowsReport, RowsStart, adviceAt, begunAt, moved, noRun, offChart, reported, standing, started, unmoved};
 use chart::Examination;
-use checking::check_formed;
+use checking::Checked;
+use checking::check_plate;
 use decode::load;
 use moves::Kind;
 use moves::move_kind;
@@ -17,14 +19,15 @@ use plate::examine_plate;
 use plate::number_at;
 use refusal::Refusal;
 use rows::Chart;
-use verdict::Verdict;
 
-// The position that the machine stands at, the disturbances seen, and the value at the start, 65,535 for "ever".
+// The position that the machine stands at, the disturbances seen, the value at the start, and the value at the position, 65,535 for
+// "ever".
 #[repr(C)]
 pub struct Run {
     position: usize,
     seen: u32,
     initial: u16,
+    value: u16,
 }
 
 // The plate's choice and value at the position now held, as numbers in rows.
@@ -40,7 +43,7 @@ pub enum Started {
     Refused(Refusal),
 }
 
-// What a report answers beside the run: advice, or a refusal: the chart's, 11, 13, 15 or 16.
+// What a report answers beside the run: advice, or a refusal: the chart's, 11, 13, 14, 18, 15 or 16.
 pub enum Answer {
     Taken(Advice),
     Refused(Refusal),
@@ -103,7 +106,7 @@ impl Run {
             Examination::Accepted(chart) => {
                 let n = chart.positions;
                 let m = chart.moves;
-                report_rows(self, n, m, &owners, &costs, &froms, &tos, plate, to)
+                report_rows(self, n, m, &owners, &marks, &costs, &froms, &tos, plate, to)
             }
         }
     }
@@ -116,10 +119,11 @@ impl Run {
             position: 18446744073709551615,
             seen: 0,
             initial: 0,
+            value: 0,
         }
     }
 
-    // Its three numbers.
+    // Its four numbers.
     pub fn position(self) -> usize
         ensures { λ r. ⌜ r ≡ self .position ⌝ }
     {
@@ -138,6 +142,12 @@ impl Run {
         self.initial
     }
 
+    pub fn value(self) -> u16
+        ensures { λ r. ⌜ r ≡ self .value ⌝ }
+    {
+        self.value
+    }
+
     // The run as it was, with a refusal.
     fn unmoved(self, refusal: Refusal) -> Reported
         ensures { λ r. ⌜ r ≡ unmoved self refusal ⌝ }
@@ -148,19 +158,20 @@ impl Run {
         }
     }
 
-    // The run at another position, with so many disturbances seen.
-    fn moved(self, to: usize, seen: u32) -> Self
-        ensures { λ r. ⌜ r ≡ moved self to seen ⌝ }
+    // The run at another position, with so many disturbances seen and the value there.
+    fn moved(self, to: usize, seen: u32, value: u16) -> Self
+        ensures { λ r. ⌜ r ≡ moved self to seen value ⌝ }
     {
         Run {
             position: to,
             seen,
             initial: self.initial,
+            value,
         }
     }
 }
 
-// The answer to a start, from a chart's rows: the plate's form first.
+// The answer to a start, from a chart's rows. 13 stands between 11 and 14: where the position is on the chart, the answer is Checking's.
 fn start_rows(
     n: usize,
     m: usize,
@@ -175,33 +186,22 @@ fn start_rows(
     requires { ⌜ ChartRows n m (now owners) (now marks) (now costs) (now froms) (now tos) × Ascending m (now froms) ⌝ }
     ensures { λ r. ⌜ RowsStart n m (now (owners .entry)) (now (marks .entry)) (now (costs .entry)) (now (froms .entry)) (now (tos .entry)) (now (plate .entry)) position r ⌝ }
 {
-    match examine_plate(n, plate) {
-        Form::Bad(line) => Started::Refused(Refusal::Plate(line)),
-        Form::Good => start_formed(n, m, owners, marks, costs, froms, tos, plate, position),
+    if n <= position {
+        return Started::Refused(off_chart(n, plate));
+    }
+    match check_plate(n, m, owners, marks, costs, froms, tos, plate) {
+        Checked::Refused(r) => Started::Refused(r),
+        Checked::Accepted => begin(n, plate, position),
     }
 }
 
-// From a plate of the form: the position, then the rows' first fault.
-fn start_formed(
-    n: usize,
-    m: usize,
-    owners: &[u8],
-    marks: &[u8],
-    costs: &[u8],
-    froms: &[u16],
-    tos: &[u16],
-    plate: &[u8],
-    position: usize,
-) -> Started
-    requires { ⌜ ChartRows n m (now owners) (now marks) (now costs) (now froms) (now tos) × Ascending m (now froms) × (formOf n (now plate) ≡ Form.Good) ⌝ }
-    ensures { λ r. ⌜ FormedStart n m (now (owners .entry)) (now (marks .entry)) (now (costs .entry)) (now (froms .entry)) (now (tos .entry)) (now (plate .entry)) position r ⌝ }
+// The refusal where a position is not on the chart: 11 comes before 13.
+fn off_chart(n: usize, plate: &[u8]) -> Refusal
+    ensures { λ r. ⌜ r ≡ offChart (formOf n (now (plate .entry))) ⌝ }
 {
-    if n <= position {
-        return Started::Refused(Refusal::Position);
-    }
-    match check_formed(n, m, owners, marks, costs, froms, tos, plate) {
-        Verdict::Fault(v, condition) => Started::Refused(Refusal::Fault(v, condition)),
-        Verdict::Sound => begin(n, plate, position),
+    match examine_plate(n, plate) {
+        Form::Bad(line) => Refusal::Plate(line),
+        Form::Good => Refusal::Position,
     }
 }
 
@@ -217,34 +217,42 @@ fn begin(n: usize, plate: &[u8], position: usize) -> Started
             position,
             seen: 0u32,
             initial,
+            value: initial,
         },
         advice,
     )
 }
 
-// The answer to a report, from a chart's rows: the plate's form first.
+// The answer to a report, from a chart's rows: where both positions are on the chart, Checking's, and on an accepted plate the move's.
 fn report_rows(
     run: Run,
     n: usize,
     m: usize,
     owners: &[u8],
+    marks: &[u8],
     costs: &[u8],
     froms: &[u16],
     tos: &[u16],
     plate: &[u8],
     to: usize,
 ) -> Reported
-    requires { ⌜ ((marks : List ℕ) × ChartRows n m (now owners) marks (now costs) (now froms) (now tos)) ⌝ }
-    ensures { λ r. ⌜ RowsReport n m (now (owners .entry)) (now (costs .entry)) (now (froms .entry)) (now (tos .entry)) run (now (plate .entry)) to r ⌝ }
+    requires { ⌜ ChartRows n m (now owners) (now marks) (now costs) (now froms) (now tos) × Ascending m (now froms) ⌝ }
+    ensures { λ r. ⌜ RowsReport n m (now (owners .entry)) (now (marks .entry)) (now (costs .entry)) (now (froms .entry)) (now (tos .entry)) run (now (plate .entry)) to r ⌝ }
 {
-    match examine_plate(n, plate) {
-        Form::Bad(line) => run.unmoved(Refusal::Plate(line)),
-        Form::Good => report_formed(run, n, m, owners, costs, froms, tos, plate, to),
+    if n <= run.position {
+        return run.unmoved(off_chart(n, plate));
+    }
+    if n <= to {
+        return run.unmoved(off_chart(n, plate));
+    }
+    match check_plate(n, m, owners, marks, costs, froms, tos, plate) {
+        Checked::Refused(r) => run.unmoved(r),
+        Checked::Accepted => report_accepted(run, n, m, owners, costs, froms, tos, plate, to),
     }
 }
 
-// From a plate of the form: both positions, then what the move is.
-fn report_formed(
+// From an accepted plate, where both positions are on the chart: the value that the run holds, then what the move is.
+fn report_accepted(
     run: Run,
     n: usize,
     m: usize,
@@ -255,39 +263,37 @@ fn report_formed(
     plate: &[u8],
     to: usize,
 ) -> Reported
-    requires { ⌜ ((marks : List ℕ) × ChartRows n m (now owners) marks (now costs) (now froms) (now tos)) × (formOf n (now plate) ≡ Form.Good) ⌝ }
-    ensures { λ r. ⌜ FormedReport n m (now (owners .entry)) (now (costs .entry)) (now (froms .entry)) (now (tos .entry)) run (now (plate .entry)) to r ⌝ }
+    requires { ⌜ ((marks : List ℕ) × ChartRows n m (now owners) marks (now costs) (now froms) (now tos)) × (formOf n (now plate) ≡ Form.Good) × (run .position < n) × (to < n) ⌝ }
+    ensures { λ r. ⌜ AcceptedReport n m (now (owners .entry)) (now (costs .entry)) (now (froms .entry)) (now (tos .entry)) run (now (plate .entry)) to r ⌝ }
 {
     let v = run.position;
-    if n <= v {
-        return run.unmoved(Refusal::Position);
-    }
-    if n <= to {
-        return run.unmoved(Refusal::Position);
-    }
     let here = advice_at(n, plate, v);
+    if here.value != run.value {
+        return run.unmoved(Refusal::Held);
+    }
     let seen = run.seen;
     match move_kind(v, to, here.choice, n, m, owners, costs, froms, tos) {
         Kind::Neither => run.unmoved(Refusal::Move),
-        Kind::Meant => stand(run.moved(to, seen), n, plate),
+        Kind::Meant => stand(run, to, seen, n, plate),
         Kind::Disturbance => {
             if Run::COUNTED <= seen {
                 return run.unmoved(Refusal::Seen);
             }
-            stand(run.moved(to, seen + 1), n, plate)
+            stand(run, to, seen + 1, n, plate)
         }
     }
 }
 
-// A run with the advice where it stands. The bounds are those of a plate of the form.
-fn stand(run: Run, n: usize, plate: &[u8]) -> Reported
-    requires { ⌜ (n ≤ 512) × (formOf n (now plate) ≡ Form.Good) × (run .position < n) ⌝ }
-    ensures { λ r. ⌜ r ≡ standing (now (plate .entry)) run ⌝ }
+// The run at another position, with so many disturbances seen; it holds the value of the advice there.
+fn stand(run: Run, to: usize, seen: u32, n: usize, plate: &[u8]) -> Reported
+    requires { ⌜ (n ≤ 512) × (formOf n (now plate) ≡ Form.Good) × (to < n) ⌝ }
+    ensures { λ r. ⌜ r ≡ standing run (now (plate .entry)) to seen ⌝ }
 {
-    let v = run.position;
+    let advice = advice_at(n, plate, to);
+    let value = advice.value;
     Reported {
-        run,
-        answer: Answer::Taken(advice_at(n, plate, v)),
+        run: run.moved(to, seen, value),
+        answer: Answer::Taken(advice),
     }
 }
 

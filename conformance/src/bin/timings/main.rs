@@ -1,7 +1,7 @@
 //! The timings: the library, through its C interface, beside the fast solver in Rust, on the same inputs in one run.
 
 use conformance::blanks::leave_out;
-use conformance::capi;
+use conformance::capi::{self, Run};
 use conformance::chart::{Chart, Owner, Position, MOVES, POSITIONS};
 use conformance::measure::{stack, times};
 use conformance::model::Subject;
@@ -10,7 +10,7 @@ use conformance::shapes::{
     all_good, blocks, console_chain, drawn, filled, lane_chain, rest_chain, rested, Reach, Shape,
 };
 use conformance::solver;
-use conformance::stacks::stacks;
+use conformance::stacks::{first_report, stacks};
 use std::hint::black_box;
 
 mod lines;
@@ -20,12 +20,13 @@ const JOBS: [&str; 5] = ["value", "write", "check", "weigh", "good"];
 /// The shape of the random charts with an even mix.
 const EVEN: Shape = Shape { lane: 30, hazards: 5, meant: 8, disturbances: 8, reach: Reach::Anywhere };
 
-/// What the jobs are given: a chart with its plate, and the plate's choices; and the count of good moves that is to be
-/// answered.
+/// What the jobs are given: a chart with its plate, the plate's choices, and a run with a report; and the count of good
+/// moves that is to be answered.
 struct Input {
     chart: Vec<u8>,
     plate: Vec<u8>,
     choices: Vec<u16>,
+    report: (Run, usize),
     good_moves: usize,
 }
 
@@ -35,8 +36,9 @@ impl Input {
         let subject = Subject::new(&text);
         let (_, plate) = subject.write(22 * (chart.len() + 1));
         let choices = subject.valuation(chart).choices.clone();
+        let report = first_report(&subject, chart);
         let good_moves = subject.good_moves(12 * MOVES).0.lines;
-        Input { plate, choices, good_moves, chart: text }
+        Input { plate, choices, report, good_moves, chart: text }
     }
 }
 
@@ -168,8 +170,7 @@ fn full_charts() {
 fn reading() {
     println!("\nReading alone: Valuing with rows too short, refused once the chart is read. Microseconds a call.\n");
     println!("{:<40}{:>10}{:>10}{:>8}", "chart", "library", "Rust", "ratio");
-    let small = [("32 positions, even mix", shaped(32, 256, EVEN)), ("32 positions, chain", lane_chain(32, 256))];
-    for (name, chart) in kinds().into_iter().chain(small) {
+    for (name, chart) in kinds().into_iter().chain(small_kinds()) {
         let mut text = chart.text();
         reading_row(name, &text);
         if name.ends_with("even mix") {
@@ -182,6 +183,26 @@ fn reading() {
 fn reading_row(name: &str, chart: &[u8]) {
     let (library, rust) = reading_alone(chart);
     println!("{name:<40}{library:>10.2}{rust:>10.2}{:>8.2}", library / rust);
+}
+
+/// A report is one Checking and the look at the move; there is no second program to set it against.
+fn reports() {
+    println!("\nA report beside Checking of the same texts, both the library's. Microseconds a call.\n");
+    println!("{:<40}{:>10}{:>10}{:>8}", "chart", "report", "check", "ratio");
+    for (name, chart) in kinds().into_iter().chain(small_kinds()) {
+        let input = &Input::new(&chart);
+        let (run, to) = input.report;
+        let taken = |number| assert_eq!(number, 0, "nothing was refused");
+        let (report, check) = times(
+            || taken(capi::report(black_box(run), &input.chart, &input.plate, to).refusal.number),
+            || taken(capi::check(black_box(&input.chart), &input.plate).number),
+        );
+        println!("{name:<40}{report:>10.2}{check:>10.2}{:>8.2}", report / check);
+    }
+}
+
+fn small_kinds() -> [(&'static str, Chart); 2] {
+    [("32 positions, even mix", shaped(32, 256, EVEN)), ("32 positions, chain", lane_chain(32, 256))]
 }
 
 fn growth() {
@@ -226,6 +247,7 @@ fn main() {
     full_charts();
     reading();
     lines::lines();
+    reports();
     growth();
     memory();
 }

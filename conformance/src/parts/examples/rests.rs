@@ -82,6 +82,8 @@ const PLATE: &[&str] = &[
     "V    3    0    -    0",
 ];
 
+const VALUES: [u16; 4] = [NONE, 1, NONE, 0];
+
 /// Other lines for position 1, and the condition that they break: the target of a disturbance is no choice, the value is too
 /// high, and it is too low, for no meant move makes up for a disturbance.
 const FAULTS: [(&str, u8); 5] = [
@@ -127,7 +129,7 @@ pub fn part(trial: &mut Trial) {
         trial.check(&subject, &faulted);
         trial.start(&subject, &faulted, 1);
         trial.solver(&subject, &faulted, &[2, NONE, NONE, NONE]);
-        reports(trial, &subject, &faulted);
+        reports(trial, &subject, &faulted, fault);
     }
     for (choices, worths) in CHOICES {
         let (refusal, row) = subject.weigh(&choices, 4);
@@ -137,17 +139,19 @@ pub fn part(trial: &mut Trial) {
         trial.compare(&subject, &plate, &choices);
         trial.solver(&subject, &plate, &choices);
     }
-    reports(trial, &subject, &plate);
+    reports(trial, &subject, &plate, Refusal::default());
 }
 
-/// What a report does at R hangs on the chart alone: on plates of the form, right or wrong, it is the same.
-fn reports(trial: &mut Trial, subject: &Subject, plate: &[u8]) {
+/// The reports with a plate that Checking answers so. A fault is answered where 13 is not.
+fn reports(trial: &mut Trial, subject: &Subject, plate: &[u8], checked: Refusal) {
     for (position, seen, to, number) in REPORTS {
-        let run = Run { position, seen, initial: 1 };
+        let run = Run { position, seen, initial: 1, value: VALUES[position] };
         let step = subject.report(run, plate, to);
-        let moved = Run { position: to, seen: seen + 1, ..run };
-        assert_eq!(step.refusal, Refusal { number, ..Refusal::default() }, "{run:?} to {to}");
-        assert_eq!(step.run, if number == 0 { moved } else { run }, "{run:?} to {to}");
+        let refusal =
+            if number == 13 || checked.number == 0 { Refusal { number, ..Refusal::default() } } else { checked };
+        assert_eq!(step.refusal, refusal, "{run:?} to {to}");
+        let moved = || Run { position: to, seen: seen + 1, value: VALUES[to], ..run };
+        assert_eq!(step.run, if refusal.number == 0 { moved() } else { run }, "{run:?} to {to}");
         trial.report(subject, run, plate, to);
     }
 }

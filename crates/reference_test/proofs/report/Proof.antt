@@ -1,14 +1,14 @@
--- `reference_test::report` is safe and ends: it counts `k` up to 18.
+-- `reference_test::report` is safe and ends: it counts `k` up to `counts`.
 use Prim.Native.Nat.{_-_, _≤_}
 use borrow.Author.Needs.{needs}
 use Rattle.reference_test.proofs.report.Statement.{statement}
 use Rattle.reference_test.proofs.report.Tie as tie
 
 abbrev Inv-loop : tie.InvT-loop
-Inv-loop tally k₀ t3 k = k ≤ 18
+Inv-loop tally counts k₀ t4 k = k ≤ counts
 
 abbrev μ-loop : tie.MeasureT-loop
-μ-loop tally k₀ t3 k = 18 - k
+μ-loop tally counts k₀ t4 k = counts - k
 
 loop-holds : tie.Need-loop-holds Inv-loop μ-loop
 loop-holds c = search needs

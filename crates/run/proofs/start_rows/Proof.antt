@@ -1,40 +1,54 @@
--- `start_rows` meets its contract: a bad line is 11, and a plate of the form is answered by `start_formed`.
-use mathlib.Core.Path.{sym, _∙_}
-use Rattle.run.specs.RunningLaws.{bad-start, formed-start}
+-- `start_rows` meets its contract: a position outside is 13 or 11, else Checking's refusal is handed on, and on an accepted plate the run begins.
+use native.Mathlib.Omega.{arith}
+use mathlib.Core.Path.{refl}
+use Rattle.checking.specs.CheckingLaws.{accepted-form}
+use Rattle.run.specs.RunningLaws.{start-inside, start-outside, startedChecked}
 use borrow.Author.Needs.{needs}
 use Rattle.run.proofs.start_rows.Statement.{statement}
 use Rattle.run.proofs.start_rows.Tie as tie
 
-examine-plate-requires : tie.Need-examine-plate-requires
-examine-plate-requires c κs = search needs
+off-chart-requires : tie.Need-off-chart-requires
+off-chart-requires c κs = search needs
 
-enum-known-line : tie.Need-enum-known-line
-enum-known-line c = search needs
+returns : tie.Need-returns
+returns c = rw (c .off-chart .ensures) (start-outside _ _ (omega (arith, c .before .if1 .taken)))
+
+check-plate-requires : tie.Need-check-plate-requires
+check-plate-requires c κs = search needs
+
+enum-known-r : tie.Need-enum-known-r
+enum-known-r c = search needs
 
 enum-told : tie.Need-enum-told
 enum-told c = search needs
 
-start-formed-requires : tie.Need-start-formed-requires
-start-formed-requires c κs =
-    let seen = c .before .before in
-    let pre = seen .before .before .before .before .before .before .before .pre in
-    (pre .0, pre .1, sym (seen .examine-plate .ensures) ∙ c .enum-told .given .1)
-
-returns : tie.Need-returns
-returns c = bad-start _ _ (sym (c .before .before .before .examine-plate .ensures) ∙ c .before .line .given .1)
+begin-requires : tie.Need-begin-requires
+begin-requires c κs =
+    let checked = c .before .before in
+    let pre = checked .before .before .before .before .before .before .before .before .pre in
+    (pre .0 .1 .few-positions, accepted-form _ (pre .0 .1) (checked .check-plate .ensures) (c .enum-told .given .1), omega (arith, checked .before .if1 .left))
 
 returns-2 : tie.Need-returns-2
+unfolding startedChecked
 returns-2 c =
-    let good = c .before in
-    formed-start _ _ (sym (good .before .before .examine-plate .ensures) ∙ good .enum-told .given .1) (c .start-formed .ensures)
+    let checked = c .before .before .before in
+    start-inside _ _ (checked .before .if1 .left) (checked .check-plate .ensures) (c .before .r .given .1) refl
+
+returns-3 : tie.Need-returns-3
+unfolding startedChecked
+returns-3 c =
+    let checked = c .before .before .before in
+    start-inside _ _ (checked .before .if1 .left) (checked .check-plate .ensures) (c .before .enum-told .given .1) (c .begin .ensures)
 
 pub start-rows-spec : {M : Type 1} → statement M
 start-rows-spec =
     tie.close
     (tie.spec
-    examine-plate-requires
-    enum-known-line
-    enum-told
-    start-formed-requires
+    off-chart-requires
     returns
-    returns-2)
+    check-plate-requires
+    enum-known-r
+    enum-told
+    begin-requires
+    returns-2
+    returns-3)

@@ -4,6 +4,7 @@ use denote.Ref.{now}
 use mathlib.Core.Path.{_≡_, sym, _∙_}
 use Rattle.chart.specs.Examined.{examined}
 use Rattle.chart.specs.declared.Examination.the-variants.{Accepted}
+use Rattle.checking.specs.CheckingLaws.{decoded-ascending}
 use Rattle.run.specs.RunningLaws.{report-refused, report-taken}
 use Rattle.run.proofs.Run.report.Statement.{statement}
 use Rattle.run.proofs.Run.report.Tie as tie
@@ -54,17 +55,21 @@ slice-aggregate-report-rows-3 c = search needs
 slice-aggregate-report-rows-4 : tie.Need-slice-aggregate-report-rows-4
 slice-aggregate-report-rows-4 c = search needs
 
+slice-aggregate-report-rows-5 : tie.Need-slice-aggregate-report-rows-5
+slice-aggregate-report-rows-5 c = search needs
+
 report-rows-requires : tie.Need-report-rows-requires
 report-rows-requires c κs =
-    let known = c .before .before .before .before .before in
-    (_, (_, loading known .load .ensures .taken _ (known .chart .given .1) .rows))
+    let known = c .before .before .before .before .before .before in
+    let loaded = loading known .load .ensures .taken _ (known .chart .given .1) in
+    ((_, loaded .rows), decoded-ascending _ _ (accepted known) (loaded .rows))
 
 returns : tie.Need-returns
 returns c = c .unmoved .ensures ∙ report-refused _ _ _ _ _ (sym (c .before .before .before .before .before .before .before .before .before .load .ensures .answer) ∙ c .before .before .r .given .1)
 
 returns-2 : tie.Need-returns-2
 returns-2 c =
-    let known = c .before .before .before .before .before .before in
+    let known = c .before .before .before .before .before .before .before in
     report-taken _ _ _ _ _ (accepted known) (loading known .load .ensures .taken _ (known .chart .given .1) .rows) (c .report-rows .ensures)
 
 pub report-spec : {M : Type 1} → statement M
@@ -84,6 +89,7 @@ report-spec =
     slice-aggregate-report-rows-2
     slice-aggregate-report-rows-3
     slice-aggregate-report-rows-4
+    slice-aggregate-report-rows-5
     report-rows-requires
     returns
     returns-2)
