@@ -41,6 +41,11 @@
  *                         each meant move; where a disturbance holds the value down, the targets may have several values.
  *                         The plate's choice is always among them. Moves of L and R positions have no line
  *
+ * A way to ruin is a play as text in the chart's columns, without a first line:
+ *     W position led      a line for each position of the play, in its order, the last one unsafe: led is 1 if a disturbance led
+ *                         there, else 0. The first has 0. The sum of this column is the count of disturbances, and the lines
+ *                         after the first are the moves
+ *
  * On a refusal everything that was lent is as it was, a run comes back as it was handed in, and all other numbers of the
  * answer are 0, save the position where a start began no run.
  */
@@ -55,15 +60,16 @@
 extern "C" {
 #endif
 
-/* The most positions and moves of a chart, and the bytes of the longest chart, the longest plate and the longest sheet of good
- * moves. */
+/* The most positions and moves of a chart, and the bytes of the longest chart, the longest plate, the longest sheet of good moves
+ * and the longest way to ruin. */
 #define DUSHEMQA_MAX_POSITIONS 512
 #define DUSHEMQA_MAX_MOVES 4096
 #define DUSHEMQA_MAX_CHART_BYTES 55308
 #define DUSHEMQA_MAX_PLATE_BYTES 11286
 #define DUSHEMQA_MAX_SHEET_BYTES 49152
+#define DUSHEMQA_MAX_RUIN_BYTES 6144
 
-/* The bytes of a chart's line, which is also a line of a sheet of good moves, and of a plate's line. */
+/* The bytes of a chart's line, which is also a line of a sheet of good moves and of a way to ruin, and of a plate's line. */
 #define DUSHEMQA_CHART_LINE_BYTES 12
 #define DUSHEMQA_PLATE_LINE_BYTES 22
 
@@ -74,8 +80,9 @@ extern "C" {
 #define DUSHEMQA_MAX_SEEN 99999
 
 /* Why a job refused. 1 to 9 and 17 are the chart's: every job tests them first, 9 last, and answers the lowest line at fault; 17
- * is tested beside 7, after 6 and before 8. Of 10 to 16 and 18 a job answers the first that applies, by number, save that 18 is
- * tested after 14 and before 15; its own list says which it has. */
+ * is tested beside 7, after 6 and before 8. Of 10 to 16, 18 and 19 a job answers the first that applies, by number, save that 18
+ * is tested after 14 and before 15, and that dushemqa_ruin tests 19 after 13 and then 10 once more, for the sheet; its own list
+ * says which it has. */
 enum dushemqa_number {
     DUSHEMQA_TAKEN = 0,             /* nothing was refused */
     DUSHEMQA_REFUSED_LENGTH = 1,    /* chart empty, over 55,308 bytes, or no multiple of 12 */
@@ -95,7 +102,8 @@ enum dushemqa_number {
     DUSHEMQA_REFUSED_MOVE = 15,     /* the reported move can't follow */
     DUSHEMQA_REFUSED_SEEN = 16,     /* a disturbance with DUSHEMQA_MAX_SEEN or more seen */
     DUSHEMQA_REFUSED_RESTING = 17,  /* a meant move from a position of rest */
-    DUSHEMQA_REFUSED_HELD = 18      /* the plate's value at the run's position is not the one that the run holds */
+    DUSHEMQA_REFUSED_HELD = 18,     /* the plate's value at the run's position is not the one that the run holds */
+    DUSHEMQA_REFUSED_EVER = 19      /* the worth at the position is "ever": no play from there is unsafe */
 };
 
 /* The conditions of a plate that dushemqa_check tests, at each position from 0 up:
@@ -174,10 +182,10 @@ typedef struct {
     dushemqa_advice advice;
 } dushemqa_step;
 
-/* What Listing answers. */
+/* What Listing and Ruin answer. */
 typedef struct {
     dushemqa_refusal refusal;
-    size_t lines; /* how many good moves the sheet has */
+    size_t lines; /* how many lines were written: the good moves, or the positions of the play */
 } dushemqa_listed;
 
 /* Valuing: the values, choices and steps of a chart's positions into the first numbers of three rows.
@@ -277,6 +285,24 @@ dushemqa_step dushemqa_report(dushemqa_run run,
  * 0 too. */
 dushemqa_listed dushemqa_good_moves(const uint8_t *chart, size_t chart_length,
                                     uint8_t *sheet, size_t sheet_length);
+
+/* Ruin: the shortest way from a position to an unsafe one, against the positional controller that makes given choices, as a way
+ * to ruin. At O the chosen meant move follows or a disturbance, at L any meant move, at R a disturbance. Of all unsafe plays from
+ * the position it is one with fewest disturbances, which is the worth there; of these one with fewest moves; of these the one
+ * with the lower position where two first differ. So there is one such play; it has no position twice, and only its last is
+ * unsafe. A move at O to the chosen target is meant, also where a D line has that target too. From an unsafe position the play
+ * has one line.
+ *   chart, chart_length      the chart's bytes
+ *   choices, choices_length  a choice for each position, DUSHEMQA_NONE at L and R; numbers past the last position are not looked
+ *                            at
+ *   position                 where the play begins
+ *   sheet, sheet_length      a buffer for the way; bytes past its last line stay. DUSHEMQA_MAX_RUIN_BYTES always suffice
+ * Refusals, in this order: 1 to 9 and 17; 10 if there are fewer choices than positions; 12; 13; 19 exactly if the worth at the
+ * position, as dushemqa_weigh gives it, is "ever"; 10 if the lines don't fit. */
+dushemqa_listed dushemqa_ruin(const uint8_t *chart, size_t chart_length,
+                              const uint16_t *choices, size_t choices_length,
+                              size_t position,
+                              uint8_t *sheet, size_t sheet_length);
 
 #ifdef __cplusplus
 }

@@ -41,6 +41,12 @@ static const struct command commands[] = {
      "each meant move at O whose target has at least the position's value. A controller that makes only these moves,\n"
      "whatever it remembers, is worth the value at every position; one that has a fixed choice for each position is\n"
      "optimal only if all its choices at O are listed.\n"},
+    {"ruin", "CHART CHOICES START", 3, 3, NULL, ruin_command, "the shortest way to ruin under a controller",
+     "The play from position START to an unsafe one, against the controller that makes CHOICES, which are given as for\n"
+     "'lane weigh': one with fewest disturbances, of these one with fewest moves, of these the one with the lower\n"
+     "position where two first differ. A line for each position says the disturbances seen so far, the chart's value\n"
+     "there and what the controller chooses; the last line has the sums. Where the value falls without a disturbance,\n"
+     "the choice before gave it away. Where the worth is \"ever\" no play is unsafe, and START is refused.\n"},
     {"run", "CHART PLATE START", 3, 3, NULL, run_command, "follow a machine by its reports",
      "Starts a run at position START and takes reports from standard input, each the number of the position that the\n"
      "machine went to, on a line of its own. After the start and after each report a line says where the run stands,\n"

@@ -1,14 +1,7 @@
-/* lane weigh, lane compare: a controller's worths beside the values. */
+/* Choices from a file; lane weigh, lane compare: a controller's worths beside the values. */
 #include "lane.h"
 
 #include <string.h>
-
-/* A row of choices from a file. A file within the limit has fewer lines than it has bytes. */
-struct choices {
-    const char *name;
-    size_t count;
-    uint16_t row[DUSHEMQA_MAX_PLATE_BYTES];
-};
 
 static enum status refuse_list(const struct text *text, const char *wrong)
 {
@@ -57,7 +50,7 @@ static enum status listed_choices(const struct text *text, struct choices *choic
 }
 
 /* The choices of a plate (a file that begins with P), or those listed one a line. */
-static enum status read_choices(const char *name, const struct text *chart, struct choices *choices)
+enum status read_choices(const char *name, const struct text *chart, struct choices *choices)
 {
     struct text text;
     struct rows rows;
@@ -96,8 +89,9 @@ static size_t refused_position(const struct text *chart, const struct choices *c
     return low;
 }
 
-static enum status refuse_choices(const struct text *chart, const struct text *plate, const struct choices *choices,
-                                  dushemqa_refusal refusal)
+/* Says why choices were refused, or the sheets that they came with. */
+enum status refuse_choices(const struct text *chart, const struct text *plate, const struct choices *choices,
+                           dushemqa_refusal refusal)
 {
     if (refusal.number != DUSHEMQA_REFUSED_SHORT && refusal.number != DUSHEMQA_REFUSED_CHOICE)
         return say_refusal(chart, plate, refusal);

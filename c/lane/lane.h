@@ -29,6 +29,7 @@ enum status check_command(const struct call *call);
 enum status weigh_command(const struct call *call);
 enum status compare_command(const struct call *call);
 enum status good_command(const struct call *call);
+enum status ruin_command(const struct call *call);
 enum status run_command(const struct call *call);
 enum status collection_command(const struct call *call);
 enum status picture_command(const struct call *call);
@@ -72,6 +73,16 @@ struct rows {
 };
 dushemqa_refusal value_rows(const struct text *chart, struct rows *rows);
 dushemqa_refusal read_rows(const struct text *chart, const struct text *plate, struct rows *rows);
+
+/* choices.c: a row of choices from a file. A file within the limit has fewer lines than it has bytes. */
+struct choices {
+    const char *name;
+    size_t count;
+    uint16_t row[DUSHEMQA_MAX_PLATE_BYTES];
+};
+enum status read_choices(const char *name, const struct text *chart, struct choices *choices);
+enum status refuse_choices(const struct text *chart, const struct text *plate, const struct choices *choices,
+                           dushemqa_refusal refusal);
 
 /* A number of a row as a word, `none` for DUSHEMQA_NONE. */
 struct word {

@@ -37,6 +37,8 @@ static const struct refusal_words refusals[] = {
     [DUSHEMQA_REFUSED_RESTING] = {CHART, "a meant move from a position of rest", chart_where},
     [DUSHEMQA_REFUSED_HELD] = {NO_SHEET, "the plate's value at the run's position is not the one that the run holds",
                                "a report"},
+    [DUSHEMQA_REFUSED_EVER] = {NO_SHEET, "the worth at the position is \"ever\": no play from there is unsafe",
+                               "the start of a way to ruin"},
 };
 
 enum { REFUSALS = sizeof refusals / sizeof refusals[0] };

@@ -106,6 +106,8 @@ extern "C" {
     fn dushemqa_report(run: Run, chart: *const u8, chart_length: usize, plate: *const u8, plate_length: usize,
                        to: usize) -> Step;
     fn dushemqa_good_moves(chart: *const u8, chart_length: usize, sheet: *mut u8, sheet_length: usize) -> Listed;
+    fn dushemqa_ruin(chart: *const u8, chart_length: usize, choices: *const u16, choices_length: usize,
+                     position: usize, sheet: *mut u8, sheet_length: usize) -> Listed;
 }
 
 // In each call below a slice gives a pointer that is not null, as many elements as its length says, and, where it is
@@ -173,4 +175,18 @@ pub fn report(run: Run, chart: &[u8], plate: &[u8], to: usize) -> Step {
 
 pub fn good_moves(chart: &[u8], sheet: &mut [u8]) -> Listed {
     unsafe { dushemqa_good_moves(chart.as_ptr(), chart.len(), sheet.as_mut_ptr(), sheet.len()) }
+}
+
+pub fn ruin(chart: &[u8], choices: &[u16], position: usize, sheet: &mut [u8]) -> Listed {
+    unsafe {
+        dushemqa_ruin(
+            chart.as_ptr(),
+            chart.len(),
+            choices.as_ptr(),
+            choices.len(),
+            position,
+            sheet.as_mut_ptr(),
+            sheet.len(),
+        )
+    }
 }

@@ -16,3 +16,4 @@ pub mod stacks;
 pub mod swaps;
 pub mod tally;
 pub mod trial;
+pub mod ways;

@@ -5,6 +5,7 @@ mod check;
 mod good;
 mod parse;
 mod plate;
+mod ruin;
 mod run;
 mod values;
 mod weigh;
@@ -14,6 +15,7 @@ use crate::chart::Chart;
 use std::cell::OnceCell;
 
 pub use plate::{plate_text, Plate};
+pub use ruin::{through, Play, Visit, Ways};
 pub use values::{summed, Valuation};
 
 /// Three rows: values, choices, steps. They are empty where a job refuses.
@@ -189,6 +191,26 @@ impl<'a> Subject<'a> {
             return Err(refused(10));
         }
         Ok((lines, good::sheet(good)))
+    }
+
+    /// The play that Ruin is to write, or why there is none, whatever the room for it.
+    pub fn play_to_ruin(&self, choices: &[u16], position: usize) -> Result<Play, Refusal> {
+        let chart = self.chart()?;
+        long_enough(chart, &[choices.len()])?;
+        weigh::legal(chart, choices)?;
+        if position >= chart.len() {
+            return Err(refused(13));
+        }
+        ruin::shortest(&Ways { chart, choices }, position as u16).ok_or(refused(19))
+    }
+}
+
+/// Ruin, with a buffer of this length lent for its play.
+pub fn ruin(play: &Result<Play, Refusal>, length: usize) -> (Listed, Vec<u8>) {
+    let sheet = play.as_ref().map(|play| ruin::sheet(play)).map_err(|&refusal| refusal);
+    match sheet.and_then(|sheet| if length < sheet.len() { Err(refused(10)) } else { Ok(sheet) }) {
+        Ok(sheet) => (Listed { refusal: Refusal::default(), lines: sheet.len() / 12 }, sheet),
+        Err(refusal) => (Listed { refusal, lines: 0 }, Vec::new()),
     }
 }
 

@@ -10,6 +10,7 @@ pub mod rest;
 pub mod setting;
 pub mod small;
 pub mod swapped;
+pub mod ways;
 
 use crate::capi::NONE;
 use crate::chart::{Chart, Owner, Position};

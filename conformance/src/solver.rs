@@ -1,4 +1,4 @@
-//! The five long jobs once more, written for speed: linear time in the chart, local arrays and no heap. The timings set
+//! The six long jobs once more, written for speed: linear time in the chart, local arrays and no heap. The timings set
 //! the library beside this, and the test holds it to the model.
 
 mod board;
@@ -6,11 +6,13 @@ mod field;
 pub mod plate;
 mod rounds;
 pub mod sheet;
+mod way;
 
 use crate::capi::{Listed, Refusal, Valued, Written, NONE};
 use crate::chart::POSITIONS;
 use board::Board;
 use plate::{Plate, LINE};
+use way::Ways;
 
 type Row = [u16; POSITIONS];
 
@@ -87,17 +89,27 @@ fn weighed(chart: &[u8], choices: &[u16], worths: &mut [u16]) -> Result<(), Refu
     if choices.len() < n || worths.len() < n {
         return Err(refused(10));
     }
-    let choices = &choices[..n];
-    let legal = choices.iter().enumerate().all(|(v, &choice)| board.may_choose(v, choice));
-    if !legal {
-        return Err(refused(12));
+    legal(&board, &choices[..n])?;
+    let mut row = [NONE; POSITIONS];
+    weigh_board(&board, choices, &mut row);
+    worths[..n].copy_from_slice(&row[..n]);
+    Ok(())
+}
+
+fn legal(board: &Board, choices: &[u16]) -> Result<(), Refusal> {
+    match choices.iter().enumerate().all(|(v, &choice)| board.may_choose(v, choice)) {
+        true => Ok(()),
+        false => Err(refused(12)),
     }
-    let (mut values, mut steps): (Row, Row) = ([NONE; POSITIONS], [NONE; POSITIONS]);
+}
+
+/// The worths of the controller that makes these choices, into a row that holds "none" before.
+#[inline]
+fn weigh_board(board: &Board, choices: &[u16], worths: &mut Row) {
+    let mut steps = [NONE; POSITIONS];
     // At O one meant move is left, so its target decides.
     let follows = |from: usize, to: u16| !board.console(from) || choices[from] == to;
-    rounds::place(&board, &mut values, &mut steps, follows);
-    worths[..n].copy_from_slice(&values[..n]);
-    Ok(())
+    rounds::place(board, worths, &mut steps, follows);
 }
 
 /// Listing.
@@ -118,6 +130,39 @@ fn listed(chart: &[u8], buffer: &mut [u8]) -> Result<usize, Refusal> {
         return Err(refused(10));
     }
     sheet::write(&board, &values, buffer);
+    Ok(lines)
+}
+
+/// Ruin.
+pub fn ruin(chart: &[u8], choices: &[u16], position: usize, buffer: &mut [u8]) -> Listed {
+    match ruined(chart, choices, position, buffer) {
+        Ok(lines) => Listed { refusal: Refusal::default(), lines },
+        Err(refusal) => Listed { refusal, lines: 0 },
+    }
+}
+
+fn ruined(chart: &[u8], choices: &[u16], position: usize, buffer: &mut [u8]) -> Result<usize, Refusal> {
+    let mut board = Board::empty();
+    board.read(chart)?;
+    let n = board.n;
+    if choices.len() < n {
+        return Err(refused(10));
+    }
+    legal(&board, &choices[..n])?;
+    if position >= n {
+        return Err(refused(13));
+    }
+    let mut worths = [NONE; POSITIONS];
+    weigh_board(&board, choices, &mut worths);
+    if worths[position] == NONE {
+        return Err(refused(19));
+    }
+    let ways = Ways::of(&board, choices, &worths);
+    let lines = ways.lines(position);
+    if buffer.len() < sheet::LINE * lines {
+        return Err(refused(10));
+    }
+    ways.write(position, buffer);
     Ok(lines)
 }
 

@@ -20,8 +20,12 @@ pub fn stacks(text: &[u8]) -> Vec<(&'static str, usize)> {
     let [values, others, steps] = &mut rows;
     let mut written = [0u8; 22 * (POSITIONS + 1)];
     let mut sheet = [0u8; 12 * MOVES];
+    let mut play = [0u8; 12 * POSITIONS];
     let taken = |number| assert_eq!(number, 0, "nothing was refused");
     let (run, to) = first_report(&subject, chart);
+    let last = chart.len() - 1;
+    // Where no position is unsafe there is no way, but the search for one.
+    let way = subject.play_to_ruin(choices, last).err().unwrap_or_default();
     let bytes = [
         stack(|| taken(capi::value(text, values, others, steps).refusal.number)),
         stack(|| taken(capi::write(text, &mut written).refusal.number)),
@@ -32,6 +36,7 @@ pub fn stacks(text: &[u8]) -> Vec<(&'static str, usize)> {
         stack(|| taken(capi::start(text, plate, 0).refusal.number)),
         stack(|| taken(capi::report(run, text, plate, to).refusal.number)),
         stack(|| taken(capi::good_moves(text, &mut sheet).refusal.number)),
+        stack(|| assert_eq!(capi::ruin(text, choices, last, &mut play).refusal, way)),
     ];
     JOBS.into_iter().zip(bytes).collect()
 }

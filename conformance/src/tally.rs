@@ -1,18 +1,19 @@
 //! What was tried: inputs, calls, how often each job gave each refusal, and what was seen of blanks, of good moves, of
-//! positions of rest and of reports with other texts.
+//! positions of rest, of reports with other texts and of ways to ruin.
 
-use crate::{blanks, rests, sheets, swaps};
+use crate::{blanks, rests, sheets, swaps, ways};
 
 /// The jobs, in the order of the header.
-pub const JOBS: [&str; 9] = ["value", "write", "read", "check", "weigh", "compare", "start", "report", "good"];
+pub const JOBS: [&str; 10] = ["value", "write", "read", "check", "weigh", "compare", "start", "report", "good", "ruin"];
 
 /// The refusals of the table, with 0 for none.
-const NUMBERS: usize = 19;
+const NUMBERS: usize = 20;
 
-/// The refusals from 10 to 16, and 18, that each job has.
+/// The refusals from 10 to 16, 18 and 19 that each job has.
 #[rustfmt::skip]
 const BEYOND: [&[usize]; JOBS.len()] = [
     &[10], &[10], &[10, 11], &[11, 14], &[10, 12], &[10, 11, 12, 14], &[11, 13, 14], &[11, 13, 14, 15, 16, 18], &[10],
+    &[10, 12, 13, 19],
 ];
 
 /// Fewer sightings than this of a refusal or a condition are too few to count as a test of it.
@@ -43,6 +44,8 @@ pub struct Tally {
     pub rest_calls: [u64; rests::CALLS.len()],
     /// How often each of the sights of reports with other texts was seen.
     pub swaps: [u64; swaps::SIGHTS.len()],
+    /// How often each of the sights of ways to ruin was seen.
+    pub ways: [u64; ways::SIGHTS.len()],
 }
 
 impl Tally {
@@ -62,6 +65,7 @@ impl Tally {
         add_each(&mut self.rests, &other.rests);
         add_each(&mut self.rest_calls, &other.rest_calls);
         add_each(&mut self.swaps, &other.swaps);
+        add_each(&mut self.ways, &other.ways);
     }
 
     /// Counts what a report with other texts shows.
@@ -95,6 +99,7 @@ impl Tally {
         print_sights("charts and R", &rests::CHARTS, &self.rests);
         print_sights("calls at R", &rests::CALLS, &self.rest_calls);
         print_sights("reports with other texts", &swaps::SIGHTS, &self.swaps);
+        print_sights("ways to ruin", &ways::SIGHTS, &self.ways);
     }
 
     /// What was seen too seldom for this to be a test of it, if all counts of inputs were divided by `divisor`.
@@ -127,13 +132,14 @@ impl Tally {
     }
 
     /// What is seen of inputs and calls beside the refusals.
-    fn sights(&self) -> [Sights<'_>; 5] {
+    fn sights(&self) -> [Sights<'_>; 6] {
         [
             ("a blank", &blanks::SIGHTS, &self.blanks),
             ("a sheet of good moves", &sheets::SIGHTS, &self.sheets),
             ("a chart and R", &rests::CHARTS, &self.rests),
             ("a call at R", &rests::CALLS, &self.rest_calls),
             ("a report with other texts", &swaps::SIGHTS, &self.swaps),
+            ("a way to ruin", &ways::SIGHTS, &self.ways),
         ]
     }
 }

@@ -2,8 +2,9 @@
 
 use crate::capi::{self, Refusal, Run, Step, NONE};
 use crate::chart::Chart;
-use crate::model::{plate_text, Plate, Subject};
+use crate::model::{self, plate_text, Plate, Subject};
 use crate::tally::{Tally, JOBS};
+use crate::ways::Way;
 use crate::{blanks, rests, sheets, solver};
 use std::fmt::Debug;
 
@@ -206,6 +207,35 @@ impl Trial {
         }
     }
 
+    /// Ruin by the library, and by the fast solver of the timings.
+    pub fn ruin(&mut self, way: &Way, length: usize) {
+        let (answer, sheet) = model::ruin(&way.play, length);
+        let (mut lent, mut lent_again) = (Lent::new(length), Lent::new(length));
+        let got = capi::ruin(way.subject.text, way.choices, way.position, lent.lend());
+        let given =
+            Given { choices: way.choices, lengths: &[length], position: Some(way.position), ..Given::default() };
+        self.settle(9, answer.refusal, got == answer && lent.holds(&sheet), || {
+            show(9, way.subject, &[], &given, &(answer, escaped(&sheet)), &(got, escaped(lent.shown())))
+        });
+        for (count, seen) in self.tally.ways.iter_mut().zip(way.sights(length)) {
+            *count += u64::from(seen);
+        }
+        let found = solver::ruin(way.subject.text, way.choices, way.position, lent_again.lend());
+        assert!(found == answer && lent_again.holds(&sheet), "solver's ruin: {}", escaped(way.subject.text));
+        ruined(way);
+    }
+
+    /// Ruin with room for the lines and no more, with one byte less, with a line less, and with so many bytes more.
+    pub fn ruin_by_room(&mut self, way: &Way, more: usize) {
+        let room = way.room();
+        self.ruin(way, room);
+        self.ruin(way, room + more);
+        if room > 0 {
+            self.ruin(way, room - 1);
+            self.ruin(way, room - 12);
+        }
+    }
+
     /// A positional controller is optimal exactly when all its choices at O are listed.
     pub fn controller(&mut self, subject: &Subject, chart: &Chart, choices: &[u16]) {
         let (_, worths) = subject.weigh(choices, chart.len());
@@ -273,6 +303,21 @@ fn listed(subject: &Subject) {
     let valuation = subject.valuation(chart);
     assert!(choices_listed(subject.good(chart), &valuation.choices), "the plate's choices are listed: {chart:?}");
     assert_eq!(subject.least_good_worths(chart), valuation.values, "listed moves keep the values: {chart:?}");
+}
+
+/// What is said of a way to ruin: there is one exactly where the worth is a number, and it has so many disturbances.
+fn ruined(way: &Way) {
+    let worth = |n: usize| way.subject.weigh(way.choices, n).1[way.position];
+    match (&way.play, way.subject.chart()) {
+        (Ok(play), Ok(chart)) => {
+            let disturbances = play.iter().filter(|visit| visit.disturbed).count();
+            assert_eq!(disturbances, usize::from(worth(chart.len())), "as many disturbances as the worth: {chart:?}");
+        }
+        (Err(Refusal { number: 19, .. }), Ok(chart)) => {
+            assert_eq!(worth(chart.len()), NONE, "no way where the worth is ever: {chart:?}");
+        }
+        _ => {}
+    }
 }
 
 /// Whether each choice at O is the target of a good move.

@@ -26,7 +26,7 @@ pub fn part(share: Share) -> Tally {
 }
 
 /// Mostly charts of 2 to 40 positions. Of a thousand, ten are larger and two have all the moves there can be.
-fn chart(random: &mut Random, input: usize) -> Chart {
+pub fn chart(random: &mut Random, input: usize) -> Chart {
     let shape = *random.pick(&SHAPES);
     let chart = match input % 1000 {
         0 => long_chart(random),
@@ -42,7 +42,7 @@ fn chart(random: &mut Random, input: usize) -> Chart {
     chart
 }
 
-fn sized(random: &mut Random, least: usize, most: usize, shape: Shape) -> Chart {
+pub fn sized(random: &mut Random, least: usize, most: usize, shape: Shape) -> Chart {
     let n = random.between(least, most);
     drawn_or_rested(random, n, shape)
 }

@@ -1,9 +1,10 @@
 //! Part 0: the model itself gives what document 01 says of its example, of the charts at the edges, and of the refusals'
-//! examples, and what document 02 says of blanks (order 1), of good moves (order 2), of positions of rest (order 4) and of
-//! reports with other texts (order 5).
+//! examples, and what document 02 says of blanks (order 1), of good moves (order 2), of positions of rest (order 4), of
+//! reports with other texts (order 5) and of ways to ruin (order 6).
 
 mod rests;
 mod swaps;
+mod ways;
 
 use crate::blanks::leave_out;
 use crate::capi::{Refusal, Run, NONE};
@@ -164,6 +165,7 @@ pub fn part() -> Tally {
     rests::part(&mut trial);
     longest(&mut trial);
     swaps::part(&mut trial);
+    ways::part(&mut trial);
     trial.tally
 }
 

@@ -11,6 +11,7 @@ use crate::model::Subject;
 use crate::random::Random;
 use crate::tally::{Tally, JOBS};
 use crate::trial::{Lent, Trial};
+use crate::ways::LINE;
 
 const PAIRS: usize = 40_000;
 
@@ -58,7 +59,8 @@ fn pair(trial: &mut Trial, random: &mut Random, setting: &Setting) {
         return;
     }
     let besides = setting.besides(random);
-    let (one, other) = (outcome(blank, setting, &besides), outcome(&filled, setting, &besides));
+    let room = LINE * random.below(6) + random.below(2);
+    let (one, other) = (outcome(blank, setting, &besides, room), outcome(&filled, setting, &besides, room));
     assert!(one == other, "blank marks and 0: {}\n{one:?}\n{other:?}", blank.escape_ascii());
     trial.input(&Subject::new(blank));
     trial.tally.calls += 2 * JOBS.len() as u64;
@@ -80,18 +82,21 @@ struct Outcome {
     started: Step,
     reported: Step,
     listed: Listed,
+    ruined: Listed,
     valued_rows: [Lent<u16>; 3],
     plate: Lent<u8>,
     read_rows: [Lent<u16>; 3],
     worths: Lent<u16>,
     sheet: Lent<u8>,
+    way: Lent<u8>,
 }
 
-fn outcome(chart: &[u8], setting: &Setting, besides: &Besides) -> Outcome {
+/// `room` is how much is lent for a way to ruin.
+fn outcome(chart: &[u8], setting: &Setting, besides: &Besides, room: usize) -> Outcome {
     let (plate, choices) = (&setting.plate, &setting.choices);
     let (mut valued_rows, mut read_rows) = (besides.rows.map(Lent::new), besides.rows.map(Lent::new));
     let (mut written, mut worths) = (Lent::new(besides.buffer), Lent::new(besides.rows[0]));
-    let mut sheet = Lent::new(besides.sheet);
+    let (mut sheet, mut way) = (Lent::new(besides.sheet), Lent::new(room));
     let [values, others, steps] = &mut valued_rows;
     let [read_values, read_choices, read_steps] = &mut read_rows;
     Outcome {
@@ -104,10 +109,12 @@ fn outcome(chart: &[u8], setting: &Setting, besides: &Besides) -> Outcome {
         started: capi::start(chart, plate, besides.start),
         reported: capi::report(besides.run, chart, plate, besides.to),
         listed: capi::good_moves(chart, sheet.lend()),
+        ruined: capi::ruin(chart, choices, besides.start, way.lend()),
         valued_rows,
         plate: written,
         read_rows,
         worths,
         sheet,
+        way,
     }
 }

@@ -157,7 +157,7 @@ impl Setting {
     }
 
     /// How much is lent for `count` things of `size`.
-    fn length(&self, random: &mut Random, count: usize, size: usize) -> usize {
+    pub fn length(&self, random: &mut Random, count: usize, size: usize) -> usize {
         let exact = count * size;
         if !self.odd_lengths {
             return exact + random.below(3);
@@ -172,7 +172,7 @@ impl Setting {
     }
 
     /// A position on the chart, or, for an odd run, perhaps past it: also where a cut to 16 or 32 bits would be on it.
-    fn start(&self, random: &mut Random) -> usize {
+    pub fn start(&self, random: &mut Random) -> usize {
         let n = self.good.len();
         let inside = random.below(n);
         if !self.odd_run || random.chance(40) {

@@ -1,4 +1,4 @@
-//! The sheet of good moves.
+//! The sheet of good moves, and lines in its columns.
 
 use super::board::Board;
 use super::{field, Row};
@@ -21,7 +21,7 @@ pub fn write(board: &Board, values: &Row, buffer: &mut [u8]) {
     let mut place = 0;
     for v in (0..board.n).filter(|&v| board.console(v)) {
         for to in good(board, values, v) {
-            put_line(&mut buffer[place..place + LINE], v as u16, to);
+            put_line(&mut buffer[place..place + LINE], b'G', v as u16, to);
             place += LINE;
         }
     }
@@ -30,14 +30,14 @@ pub fn write(board: &Board, values: &Row, buffer: &mut [u8]) {
 /// Writes lines from rows of positions and targets, without a chart: for the timings.
 pub fn put_lines(froms: &[u16], tos: &[u16], buffer: &mut [u8]) {
     for ((&from, &to), line) in froms.iter().zip(tos).zip(buffer.chunks_exact_mut(LINE)) {
-        put_line(line, from, to);
+        put_line(line, b'G', from, to);
     }
 }
 
 #[inline(always)]
-fn put_line(line: &mut [u8], from: u16, to: u16) {
-    line[0] = b'G';
-    field::put(&mut line[1..6], from);
-    field::put(&mut line[6..11], to);
+pub fn put_line(line: &mut [u8], letter: u8, first: u16, second: u16) {
+    line[0] = letter;
+    field::put(&mut line[1..6], first);
+    field::put(&mut line[6..11], second);
     line[LINE - 1] = b'\n';
 }

@@ -17,6 +17,7 @@ use Rattle.weighing.specs.Weighing.{WeighedIs}
 use Rattle.weighing.specs.declared.Weighed.{Weighed}
 use Rattle.listing.specs.Listing.{ListedIs}
 use Rattle.listing.specs.declared.Listed.{Listed}
+use Rattle.ruin.specs.Ruin.{RuinedIs}
 use Rattle.comparing.specs.Compared.{ComparedIs}
 use Rattle.comparing.specs.declared.Compared.{Compared}
 use Rattle.run.specs.Running.{started, reported}
@@ -42,6 +43,8 @@ pub record SameAnswers (text other : List ℕ) : Type 0 where
       → WeighedIs text choices worths worths₁ r → WeighedIs other choices worths worths₂ s → (r ≡ s) × (worths₁ ≡ worths₂)
   pub comparing : {plate choices : List ℕ} {r s : Compared} → ComparedIs text plate choices r → ComparedIs other plate choices s → r ≡ s
   pub listing : {out out₁ out₂ : List ℕ} {r s : Listed} → ListedIs text out out₁ r → ListedIs other out out₂ s → (r ≡ s) × (out₁ ≡ out₂)
+  pub ruin : {choices out out₁ out₂ : List ℕ} {position : ℕ} {r s : Listed}
+      → RuinedIs text choices position out out₁ r → RuinedIs other choices position out out₂ s → (r ≡ s) × (out₁ ≡ out₂)
   pub start : (plate : List ℕ) (position : ℕ) → started text plate position ≡ started other plate position
   pub report : (run : Run) (plate : List ℕ) (to : ℕ) → reported run text plate to ≡ reported run other plate to
   -- what the collection's program prints

@@ -37,6 +37,12 @@ use Rattle.listing.specs.declared.Listed.the-variants.{Lines, Refused as Listin
 use Rattle.run.specs.Running.{startedForm, startedBy, started, reportedForm, reportedBy, reported}
 use Rattle.run.specs.declared.Run.{Run}
 use Rattle.response.specs.Response.{responseBy, response, Responded}
+use Rattle.rows.specs.Numbers.{rowValue}
+use Rattle.game.specs.Play.{Trail}
+use Rattle.way.specs.OneWay.{way-by-choices}
+use Rattle.ruin.specs.Sheet.{waySheet}
+use Rattle.ruin.specs.Ruin.{WayWritten, ruinedBy, ruined, RuinedIs}
+use Rattle.demands.specs.WayToRuinHolds.{shortest-way}
 use Rattle.demands.specs.BlankMarks.{SameChart, BlankMarks}
 
 module _ (text other : List ℕ) (same : SameChart text other) where
@@ -139,6 +145,25 @@ module _ (text other : List ℕ) (same : SameChart text other) where
       go (Lines k) e = a .taken k e ∙ ap (λ (x : Arena). goodSheet x ++ drop (k * 12) out) (same .arena) ∙ sym (b .taken k (sym answers ∙ e))
       go (ListingRefused x) e = a .refused x e ∙ sym (b .refused x (sym answers ∙ e))
 
+  ruin-same : {choices out out₁ out₂ : List ℕ} {position : ℕ} {r s : Listed} → RuinedIs text choices position out out₁ r → RuinedIs other choices position out out₂ s
+      → (r ≡ s) × (out₁ ≡ out₂)
+  unfolding ruined
+  ruin-same {choices} {out} {out₁} {out₂} {position} {r} {s} a b = (answers, go r refl)
+    where
+      answers : r ≡ s
+      answers = a .answer ∙ both (λ e x. ruinedBy e x choices position (length out)) ∙ sym (b .answer)
+
+      -- there is one way, so its lines are the same
+      go : (x : Listed) → r ≡ x → out₁ ≡ out₂
+      go (Lines k) e =
+          let p = subst (λ (x : Arena). WayWritten x choices position k out out₁) (same .arena) (a .taken k e) in
+          let q = b .taken k (sym answers ∙ e) in
+          let w = shortest-way other choices position out out₂ k (subst (RuinedIs other choices position out out₂) (sym answers ∙ e) b) in
+          let here = w .only (p .trail) (way-by-choices (arenaOf other) (rowValue choices) (p .legal) (w .legal) position (p .trail) (p .way)) in
+          let there = w .only (q .trail) (way-by-choices (arenaOf other) (rowValue choices) (q .legal) (w .legal) position (q .trail) (q .way)) in
+          p .bytes ∙ ap (λ (x : Trail). waySheet position x ++ drop (k * 12) out) (here ∙ sym there) ∙ sym (q .bytes)
+      go (ListingRefused x) e = a .refused x e ∙ sym (b .refused x (sym answers ∙ e))
+
   start-same : (plate : List ℕ) (position : ℕ) → started text plate position ≡ started other plate position
   unfolding started startedBy
   start-same plate position = either (startedBy text plate position) (startedBy other plate position) go
@@ -174,6 +199,7 @@ blank-marks text other d =
         weighing = weighing-same text other same;
         comparing = λ a b. a .answer ∙ comparing-same text other same _ _ ∙ sym (b .answer);
         listing = listing-same text other same;
+        ruin = ruin-same text other same;
         start = start-same text other same;
         report = report-same text other same;
         program = program-same text other same;

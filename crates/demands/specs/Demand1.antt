@@ -1,6 +1,6 @@
 -- The mission's first demand, of the answers: "no misdrawn sheet is taken, and no refusal changes a lent buffer". With it stands document
 -- 01's sentence "the table is exact: a number is returned if its condition holds, and only then", in its order: "then 9; then 10 to 16
--- by number as far as the job has them", with 18 between 14 and 15 (document 02, order 5). Each job has its rows of the table in one list. That
+-- by number as far as the job has them", with 18 between 14 and 15 (document 02, order 5) and 19 after 13 (order 6). Each job has its rows of the table in one list. That
 -- nothing makes a job stop, run on or read beyond its input is what every function of the library is proved for.
 use Prim.Native.Nat.{ℕ, _+_, _*_, _≤_, _<_}
 use mathlib.Core.Path.{_≡_}
@@ -9,10 +9,13 @@ use mathlib.Core.List.{List, [], _∷_}
 use lib.ListN.{length}
 use Rattle.rows.specs.Numbers.{rowValue, numberOf}
 use Rattle.game.specs.Arena.{size, ownerAt}
-use Rattle.game.specs.Play.{LegalAt}
+use Rattle.game.specs.Value.{ever}
+use Rattle.game.specs.Play.{Trail, LegalAt, Legal, positional}
+use Rattle.game.specs.Worth.{WorthIs}
+use Rattle.way.specs.Way.{WayToRuin}
 use Rattle.refusal.specs.declared.Misdrawn.{Misdrawn}
 use Rattle.refusal.specs.declared.Refusal.{Refusal}
-use Rattle.refusal.specs.declared.Refusal.the-variants.{Chart as OfChart, Short, Plate, Choice, Position, Fault, Held, Move, Seen}
+use Rattle.refusal.specs.declared.Refusal.the-variants.{Chart as OfChart, Short, Plate, Choice, Position, Ever, Fault, Held, Move, Seen}
 use Rattle.chart.specs.Meaning.{arenaOf}
 use Rattle.chart.specs.Refusals.{Applies, First}
 use Rattle.plate.specs.Form.{BadAt}
@@ -40,6 +43,8 @@ use Rattle.listing.specs.Sheet.{SheetOf}
 use Rattle.listing.specs.Listing.{ListedIs}
 use Rattle.listing.specs.declared.Listed.{Listed}
 use Rattle.listing.specs.declared.Listed.the-variants.{Refused as ListingRefused}
+use Rattle.ruin.specs.Sheet.{waySheet}
+use Rattle.ruin.specs.Ruin.{RuinedIs}
 use Rattle.comparing.specs.Compared.{ComparedIs}
 use Rattle.comparing.specs.declared.Compared.{Compared}
 use Rattle.comparing.specs.declared.Compared.the-variants.{Refused as ComparingRefused}
@@ -94,6 +99,16 @@ malformed text plate x = (line : ℕ) × (x ≡ Plate line) × BadAt (count text
 abbrev pub IllegalChoice : (text choices : List ℕ) → Type 0
 IllegalChoice text choices = (v : ℕ) × (v < count text) × (LegalAt (arenaOf text) (rowValue choices) v → ⊥)
 
+-- 19: "exactly when the worth there is "ever"" (document 02, order 6), that of the controller which makes the choices
+abbrev pub WorthIsEver : (text choices : List ℕ) → ℕ → Type 0
+WorthIsEver text choices v = (legal : Legal (arenaOf text) (rowValue choices)) × WorthIs (arenaOf text) (positional (arenaOf text) (rowValue choices) legal) v ever
+
+-- 10 for the way to ruin, which looks only at its lines
+abbrev pub ShorterThanWay : (text choices : List ℕ) → ℕ → (lent : List ℕ) → Type 0
+ShorterThanWay text choices v lent =
+    (legal : Legal (arenaOf text) (rowValue choices))
+    × ((t : Trail) × WayToRuin (arenaOf text) (positional (arenaOf text) (rowValue choices) legal) v t × TooShort (length (waySheet v t)) lent)
+
 -- 14: "checking finds a fault", with the first fault's position and condition
 abbrev pub faulty : (text plate : List ℕ) → Row
 faulty text plate x = (v : ℕ) × (c : ℕ) × (x ≡ Fault v c) × FirstFaultIs (arenaOf text) (valueIn plate) (choiceIn plate) (stepIn plate) (headerIn plate) v c
@@ -141,6 +156,17 @@ comparingRows text plate choices =
 abbrev pub listingRows : (text out : List ℕ) → List Row
 listingRows text out = misdrawn text ∷ only Short (ShorterThanSheet text out) ∷ []
 
+-- "Refusals 10 for the row, 12 and 13 come first; 10 for the output is last. .. 19 .., tested after 13"
+abbrev pub ruinRows : (text choices : List ℕ) → ℕ → (out : List ℕ) → List Row
+ruinRows text choices position out =
+    misdrawn text
+    ∷ only Short (TooShort (count text) choices)
+    ∷ only Choice (IllegalChoice text choices)
+    ∷ only Position (count text ≤ position)
+    ∷ only Ever (WorthIsEver text choices position)
+    ∷ only Short (ShorterThanWay text choices position out)
+    ∷ []
+
 -- 13: "a position from n up"
 abbrev pub startRows : (text plate : List ℕ) → ℕ → List Row
 startRows text plate position = misdrawn text ∷ malformed text plate ∷ only Position (count text ≤ position) ∷ faulty text plate ∷ []
@@ -179,6 +205,8 @@ pub record Demand1 : Type 0 where
       → Exact r WeighingRefused (weighingRows text choices worths) (worths′ ≡ worths)
   pub comparing : {text plate choices : List ℕ} {r : Compared} → ComparedIs text plate choices r → Exact r ComparingRefused (comparingRows text plate choices) (Unit {0})
   pub listing : {text out out′ : List ℕ} {r : Listed} → ListedIs text out out′ r → Exact r ListingRefused (listingRows text out) (out′ ≡ out)
+  pub ruin : {text choices out out′ : List ℕ} {position : ℕ} {r : Listed} → RuinedIs text choices position out out′ r
+      → Exact r ListingRefused (ruinRows text choices position out) (out′ ≡ out)
   pub start : {text plate : List ℕ} {position : ℕ} {r : Started} → r ≡ started text plate position → Exact r StartRefused (startRows text plate position) (Unit {0})
   -- "the run comes back unchanged"
   pub report : {run : Run} {text plate : List ℕ} {to : ℕ} {r : Reported} → r ≡ reported run text plate to

@@ -7,8 +7,11 @@ pub mod Demand3
 pub mod BlankMarks
 pub mod GoodMoves
 pub mod Rest
+pub mod WayToRuin
 pub mod EdgeCharts
 pub mod SanctionedLaws
+pub mod RowLaws
+pub mod RuinRows
 pub mod Demand1Holds
 pub mod ReadBack
 pub mod Printed
@@ -16,4 +19,5 @@ pub mod Demand3Holds
 pub mod BlankMarksHold
 pub mod GoodMovesHold
 pub mod RestHolds
+pub mod WayToRuinHolds
 pub mod EdgeChartsHold

@@ -14,6 +14,7 @@ use Rattle.comparing.specs.Compared.{ComparedIs}
 use Rattle.comparing.specs.declared.Compared.{Compared}
 use Rattle.listing.specs.Listing.{ListedIs}
 use Rattle.listing.specs.declared.Listed.{Listed}
+use Rattle.ruin.specs.Ruin.{RuinedIs}
 use Rattle.refusal.specs.declared.Numbers.{Numbers}
 use Rattle.answers.specs.Numbers.{comparedNumbers, listedNumbers, readingNumbers, valuedNumbers, weighedNumbers, writtenNumbers}
 use Rattle.answers.specs.declared.ValuedNumbers.{ValuedNumbers}
@@ -50,4 +51,9 @@ pub record ComparedAs (text plate choices : List ℕ) (r : ComparedNumbers) : Ty
 pub record ListedAs (text out out′ : List ℕ) (r : ListedNumbers) : Type 0 where
   pub answer : Listed
   pub job : ListedIs text out out′ answer
+  pub numbers : r ≡ listedNumbers answer
+
+pub record RuinedAs (text choices : List ℕ) (position : ℕ) (out out′ : List ℕ) (r : ListedNumbers) : Type 0 where
+  pub answer : Listed
+  pub job : RuinedIs text choices position out out′ answer
   pub numbers : r ≡ listedNumbers answer

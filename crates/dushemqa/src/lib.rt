@@ -4,7 +4,7 @@ ghost use mathlib.Core.Path.{_≡_};
 ghost use Rattle.checking.specs.Checking.{checked};
 ghost use Rattle.run.specs.Running.{reported, started};
 ghost use Rattle.answers.specs.Numbers.{checkedNumbers, reportedNumbers, startedNumbers};
-ghost use Rattle.dushemqa.specs.Exports.{ComparedAs, ListedAs, ReadAs, ValuedAs, WeighedAs, WrittenAs};
+ghost use Rattle.dushemqa.specs.Exports.{ComparedAs, ListedAs, ReadAs, RuinedAs, ValuedAs, WeighedAs, WrittenAs};
 use answers::ComparedNumbers;
 use answers::ListedNumbers;
 use answers::ReadingNumbers;
@@ -25,6 +25,7 @@ use comparing::compare;
 use listing::list_good_moves;
 use reading::read_plate;
 use refusal::Numbers;
+use ruin::list_way_to_ruin;
 use run::Run;
 use valuing::value_chart;
 use weighing::weigh_chart;
@@ -95,6 +96,19 @@ pub extern "C" fn dushemqa_good_moves(text: &[u8], sheet: &mut [u8]) -> ListedNu
     ensures { λ r. ⌜ ListedAs (now (text .entry)) (now (sheet .entry)) (now (sheet .exit)) r ⌝ }
 {
     listed_numbers(list_good_moves(text, sheet))
+}
+
+// The way to ruin.
+#[no_mangle]
+pub extern "C" fn dushemqa_ruin(
+    text: &[u8],
+    choices: &[u16],
+    position: usize,
+    sheet: &mut [u8],
+) -> ListedNumbers
+    ensures { λ r. ⌜ RuinedAs (now (text .entry)) (now (choices .entry)) position (now (sheet .entry)) (now (sheet .exit)) r ⌝ }
+{
+    listed_numbers(list_way_to_ruin(text, choices, position, sheet))
 }
 
 // Start.

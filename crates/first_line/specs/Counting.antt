@@ -6,30 +6,13 @@ use mathlib.Core.List.{List}
 use lib.ListN.{getD, set}
 use lib.Dec.{eqb, ltb}
 use Rattle.search.specs.Below.{bit, countBelow}
-use Rattle.search.specs.First.{firstFrom}
-use Rattle.rows.specs.Rows.{RowIs}
-use Rattle.rows.specs.Numbers.{numberOf, rowValue, free}
+use Rattle.rows.specs.Numbers.{numberOf, rowValue}
 use Rattle.rows.specs.NumberLaws.{Fits}
-use Rattle.rows.specs.Filling.{setIf}
 use Rattle.game.specs.FirstLine.{firstOfPair, highest}
 
 -- every finite value, and the step beside it, is below 512
 abbrev pub PairsFit : ℕ → List ℕ → List ℕ → Type 0
 PairsFit n values steps = (v : ℕ) → v < n → (getD values v 0 ≡ 65535 → ⊥) → (getD values v 0 < 512) × (getD steps v 0 < 512)
-
--- the lowest of the n positions from i on whose value is k; 65,535 if there is none
-unfoldable pub nextOf : List ℕ → ℕ → ℕ → ℕ → ℕ
-nextOf values n k i = firstFrom (λ v. not (eqb (getD values v 0) k)) (λ v. v) 65535 (n - i) i
-
--- the positions from i on are chained by value: each value has the lowest, and each position the next with its value
-pub record Chained (values : List ℕ) (n i : ℕ) (heads nexts : List ℕ) : Type 0 where
-  pub head : RowIs heads 512 (λ k. nextOf values n k i)
-  pub next : (v : ℕ) → i ≤ v → v < n → (getD values v 0 ≡ 65535 → ⊥) → getD nexts v 0 ≡ nextOf values n (getD values v 0) (v + 1)
-
--- v, if its value is finite, goes to the front of its value's chain
-pub record Linked (v : ℕ) (values heads heads′ nexts nexts′ : List ℕ) : Type 0 where
-  pub head : heads′ ≡ setIf (not (free values v)) (getD values v 0) v heads
-  pub next : nexts′ ≡ setIf (not (free values v)) v (getD heads (getD values v 0) 0) nexts
 
 -- v is the first with its pair, and its value is k
 unfoldable pub firstOfValue : ℕ → List ℕ → List ℕ → ℕ → Bool

@@ -1,6 +1,6 @@
 // Asks the jobs about charts, plates, steps and rows of choices, good and bad, and writes what each answers and what the case is.
 // `stdin` has the cases, `stdout` what the documents say of each. The first letter of a case's name is its job: `E` examines a chart, `C`
-// is Checking, `R` Reading, `W` the program's answer, `S` a step of a run, `D` Comparing and `G` Listing.
+// is Checking, `R` Reading, `W` the program's answer, `S` a step of a run, `D` Comparing, `G` Listing and `P` the way to ruin.
 ghost use Rattle.cases.specs.CaseLaws.{Ordered};
 ghost use lib.ListN.{length};
 use cases::Case;
@@ -12,6 +12,7 @@ mod charts;
 mod plates;
 mod runs;
 mod sheets;
+mod ways;
 mod writer;
 
 // Where the next case begins, and the run that it goes on with.
@@ -22,7 +23,7 @@ struct Next {
 
 // The input has more bytes than io's large buffer.
 fn main() {
-    let mut input = [0u8; 163840];
+    let mut input = [0u8; 196608];
     let got = io::read_full(STDIN_FILENO, &mut input);
     cases(&input[..got]);
     charts::longest();
@@ -32,12 +33,12 @@ fn main() {
     sheets::longest();
 }
 
-// The cases of the input, of which there are fewer than 800.
+// The cases of the input, of which there are fewer than 1,000.
 fn cases(input: &[u8]) {
     let mut at: usize = 0;
     let mut run = Run::none();
     let mut k: usize = 0;
-    while k < 800 {
+    while k < 1000 {
         let next = show_case(input, case_at(input, at), run);
         at = next.at;
         run = next.run;
@@ -86,6 +87,10 @@ fn show(name: &[u8], chart: &[u8], plate: &[u8], words: &[u8], run: Run) -> Run 
     }
     if job == b'G' {
         sheets::list(chart, words, &name[1..]);
+        return run;
+    }
+    if job == b'P' {
+        ways::list(chart, plate, words, &name[1..]);
         return run;
     }
     let after = answer(job, chart, plate, words, run);

@@ -76,20 +76,11 @@ pub fn rows() {
     io::write_all(1, b"  a row short\n");
 }
 
-// The answer for a chart, a plate and a row. A row of more than five choices gets none.
+// The answer for a chart, a plate and a row of up to sixteen choices.
 pub fn compare(text: &[u8], plate: &[u8], fields: &[u8]) {
-    let count = fields.len() / 5;
-    if 5 < count {
-        return;
-    }
-    let row = [
-        choice(fields, 0),
-        choice(fields, 5),
-        choice(fields, 10),
-        choice(fields, 15),
-        choice(fields, 20),
-    ];
-    let choices = &row[0..count];
+    let mut row = [0u16; 16];
+    fill_row(fields, &mut row);
+    let choices = part(&row, fields.len() / 5);
     if plate.len() == 1 {
         compare_written(text, choices);
     } else {
@@ -97,9 +88,31 @@ pub fn compare(text: &[u8], plate: &[u8], fields: &[u8]) {
     }
 }
 
+// The choices of a row, a field for each, and 0 past its end.
+pub fn fill_row(fields: &[u8], row: &mut [u16; 16]) {
+    let mut v: usize = 0;
+    while v < 16 {
+        row[v] = choice(fields, v * 5);
+        v += 1;
+    }
+}
+
+// The first choices of a row.
+pub fn part(row: &[u16; 16], count: usize) -> &[u16] {
+    front(row, count)
+}
+
+fn front(row: &[u16], count: usize) -> &[u16] {
+    if count <= row.len() {
+        &row[0..count]
+    } else {
+        row
+    }
+}
+
 // The choice at `at`, 0 past the row's end.
 fn choice(fields: &[u8], at: usize) -> u16
-    requires { ⌜ at ≤ 20 ⌝ }
+    requires { ⌜ at ≤ 75 ⌝ }
 {
     if fields.len() < at + 5 {
         return 0;

@@ -45,7 +45,7 @@ fn went(run: Run, chart: &[u8], plate: &[u8], to: usize) -> Run {
 }
 
 // A field's number, or the largest.
-fn number(f: Field) -> usize {
+pub fn number(f: Field) -> usize {
     match f {
         Field::Number(x) => x as usize,
         Field::Blank => 18446744073709551615,

@@ -18,13 +18,18 @@ fn list_into(text: &[u8], buffer: &mut [u8], room: usize, name: &[u8]) {
         return;
     }
     answer(list_good_moves(text, &mut buffer[0..room]));
+    show(name, &buffer[0..room]);
+}
+
+// A name, and under it a lent buffer, with a bar where it ends.
+pub fn show(name: &[u8], lent: &[u8]) {
     writer::name(name);
-    io::write_all(1, &buffer[0..room]);
+    io::write_all(1, lent);
     io::write_all(1, b"|\n");
 }
 
 // The field's number, or more than any buffer has.
-fn room(words: &[u8]) -> usize {
+pub fn room(words: &[u8]) -> usize {
     if words.len() < 5 {
         return 99999;
     }

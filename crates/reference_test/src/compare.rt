@@ -122,10 +122,11 @@ fn same_rows(
     same_row(table, STEP, n, steps)
 }
 
-pub fn same_pages(a: &Page, b: &Page) -> bool {
+// The first bytes of two pages.
+pub fn same_pages(a: &Page, b: &Page, size: usize) -> bool {
     let mut i: usize = 0;
-    while i < 65536 {
-        if a[i] != b[i] {
+    while i < size {
+        if a[i % 65536] != b[i % 65536] {
             return false;
         }
         i += 1;
@@ -210,7 +211,7 @@ fn compare_plate(chart: &Chart, table: &Table, text: &[u8], tally: &mut Tally) {
     let mut written = [b'#'; 65536];
     let size = write_plate(&mut page, table, positions(chart));
     let answer = length_of(writing::write_plate(text, &mut written));
-    let same = same_pages(&page, &written);
+    let same = same_pages(&page, &written, 65536);
     expect(same & (answer == size), b"writing", text, tally);
     compare_reading(chart, table, text, part(&written, size), tally);
 }
@@ -410,7 +411,7 @@ fn weigh_drawn(chart: &Chart, solved: &Table, text: &[u8], seed: &mut usize, tal
     compare_rows(chart, solved, &table, text, &row, tally);
 }
 
-fn choose_drawn(chart: &Chart, table: &mut Table, row: &mut [u16; 512], seed: &mut usize) {
+pub fn choose_drawn(chart: &Chart, table: &mut Table, row: &mut [u16; 512], seed: &mut usize) {
     let n = positions(chart);
     let mut v = 0;
     while v < n {
@@ -465,7 +466,7 @@ fn compare_rows(
     let mut page = [b'#'; 65536];
     let size = write_plate(&mut page, solved, n);
     let answer = compare(text, part(&page, size), row);
-    let first = first_difference(table, n);
+    let first = first_difference(table, VALUE, WORTH, n);
     expect(
         same_difference(answer, table, n, first),
         b"comparing",
@@ -474,11 +475,11 @@ fn compare_rows(
     );
 }
 
-// The first of n positions whose value and worth differ, n if none does.
-pub fn first_difference(table: &Table, n: usize) -> usize {
+// The first of n entries at which two columns differ, n if they do at none.
+pub fn first_difference(table: &Table, a: usize, b: usize, n: usize) -> usize {
     let mut v = 0;
     while v < n {
-        if get(table, VALUE, v) != get(table, WORTH, v) {
+        if get(table, a, v) != get(table, b, v) {
             return v;
         }
         v += 1;

@@ -186,6 +186,7 @@ fn draw_rests(kind: usize, seed: &mut usize) -> usize {
 fn shape_of(kind: usize, size: usize, lanes: usize, dangers: usize, rests: usize) -> Shape {
     let few = size % 64;
     match kind {
+        3 => [few % 6 + 5, 4, 0, lanes / 4, 0, few % 3 + 1, rests],
         4 => [few % 6 + 3, 6, 0, lanes, dangers, 0, rests],
         5 => [few + 20, 5, 0, lanes, dangers / 4, 0, rests],
         6 => [few + 20, 6, 0, lanes, dangers / 10, few % 4 + 1, rests],

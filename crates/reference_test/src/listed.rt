@@ -22,6 +22,7 @@ use crate::sheet::NONE;
 use crate::sheet::RIGHT;
 use crate::sheet::Table;
 use crate::sheet::VALUE;
+use crate::sheet::WORTH;
 use crate::sheet::cell;
 use crate::sheet::get;
 use crate::sheet::owner;
@@ -101,7 +102,7 @@ fn compare_room(
     tally: &mut Tally,
 ) {
     let answer = list_into(text, lent, room);
-    let same = same_pages(page, lent);
+    let same = same_pages(page, lent, 65536);
     expect(
         same & is_answer(answer, lines, room),
         b"listing",
@@ -227,7 +228,7 @@ fn hold(
 ) {
     let n = positions(chart);
     weigh_choices(chart, table);
-    let optimal = first_difference(table, n) == n;
+    let optimal = first_difference(table, VALUE, WORTH, n) == n;
     let choices = chosen(table, sheet, lines) % 8192 + count(table, CHOICE, n, NONE) % 8192;
     add(tally, if optimal { OPTIMAL } else { OTHERS }, 1);
     expect(optimal == (choices == n), b"listed choices", text, tally);

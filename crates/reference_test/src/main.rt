@@ -1,8 +1,8 @@
 // Holds the library's answers against another implementation of document 01's definitions, on every chart of one and two positions and
 // on pseudo-random ones up to the largest size. It writes what was compared, a line for each kind of chart, and each comparison that
 // fails with its chart. Some kinds come again with marks left blank, by draws of their own: the numbers must be the same. Then come charts
-// with positions of rest, whose count stands in the line, and runs whose texts change. Nothing but the jobs that are compared is shared with
-// the library.
+// with positions of rest, whose count stands in the line, runs whose texts change, and ways to ruin. Nothing but the jobs that are compared is
+// shared with the library.
 use crate::compare::RESTS;
 use crate::compare::Tally;
 use crate::compare::compare_chart;
@@ -15,15 +15,18 @@ use crate::reports::Card;
 use crate::reports::compare_run;
 use crate::sheet::RIGHT;
 use crate::sheet::cell;
+use crate::ways::compare_ways;
 
 mod checker;
 mod compare;
 mod definition;
 mod generate;
 mod listed;
+mod plays;
 mod reports;
 mod sheet;
 mod text;
+mod ways;
 
 fn main() {
     io::write_all(
@@ -49,6 +52,7 @@ fn main() {
     some(b"512 positions, 4,096 moves", 7, 20, 50);
     some_resting();
     some_swapped();
+    some_ruined();
 }
 
 // Charts with positions of rest. By the numbers come two of one position and four of two that have no move: they are left out. Of three
@@ -103,6 +107,41 @@ fn runs(name: &[u8], kind: usize, charts: usize) {
         i += 1;
     }
     report(&tally, COUNTED);
+    io::write_all(1, name);
+    report_count(b", mismatches: ", tally[17]);
+    io::write_all(1, b"\n");
+}
+
+// The way to ruin, of 24 questions about each chart.
+fn some_ruined() {
+    io::write_all(
+        1,
+        b"ways to ruin of 0, 1 and more disturbances, decided by moves, by positions; refused for the chart, with 10 for the row, 12, 13, 19 and 10 for the buffer; unsafe plays found, lines of the longest way\n",
+    );
+    ruins(b"every chart of 1 position", 0, 6);
+    ruins(b"every chart of 1 position, of rest", 10, 4);
+    ruins(b"every chart of 2 positions", 1, 900);
+    ruins(b"every chart of 2 positions, some of rest", 11, 544);
+    ruins(b"512 positions, disturbances downward", 2, 1);
+    ruins(b"512 positions, lanes downward", 3, 1);
+    ruins(b"512 positions, disturbances downward, all of rest", 12, 1);
+    ruins(b"3 positions", 9, 500);
+    ruins(b"3 positions, some of rest", 19, 500);
+    ruins(b"3 to 8 positions", 4, 500);
+    ruins(b"3 to 8 positions, some of rest", 14, 500);
+    ruins(b"5 to 10 positions, targets near, some of rest", 13, 500);
+}
+
+// Charts of a kind, by draws of their own.
+fn ruins(name: &[u8], kind: usize, charts: usize) {
+    let mut tally = [0usize; 19];
+    let mut seed = 6;
+    let mut i = 0;
+    while i < charts {
+        compare_ways(kind, i, &mut seed, &mut tally);
+        i += 1;
+    }
+    report(&tally, ways::COUNTED);
     io::write_all(1, name);
     report_count(b", mismatches: ", tally[17]);
     io::write_all(1, b"\n");

@@ -46,10 +46,15 @@ fn put_field(page: &mut Page, at: usize, x: usize, word: &[u8; 5]) {
 
 // The fields of a chart's line, with a letter, on a line of the page.
 pub fn put_line(page: &mut Page, k: usize, letter: usize, chart: &Chart, i: usize) {
+    put_numbers(page, k, letter, cell(chart, LEFT, i), cell(chart, RIGHT, i));
+}
+
+// Two numbers with a letter, on a line of the page.
+pub fn put_numbers(page: &mut Page, k: usize, letter: usize, left: usize, right: usize) {
     let at = k % 5000 * 12;
     page[at] = (letter % 256) as u8;
-    put_field(page, at + 1, cell(chart, LEFT, i), b"    -");
-    put_field(page, at + 6, cell(chart, RIGHT, i), b"     ");
+    put_field(page, at + 1, left, b"    -");
+    put_field(page, at + 6, right, b"     ");
     page[at + 11] = b'\n';
 }
 

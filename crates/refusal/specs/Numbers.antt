@@ -1,11 +1,11 @@
 -- What each refusal gives, as document 01's table has it: "A refusal gives a number and a line, counted from 0 in the chart (1 to 9) or
 -- plate (11), else 0; 14 gives the fault's position and condition besides", and document 02, order 4: "17 (with its line)", in the chart too;
--- order 5's 18 gives none. The one definition of the table's numbers.
+-- order 5's 18 and order 6's 19 give none. The one definition of the table's numbers.
 use Prim.Native.Nat.{ℕ}
 use Rattle.refusal.specs.declared.Misdrawn.{Misdrawn}
 use Rattle.refusal.specs.declared.Misdrawn.the-variants.{Length, Form, Limits, Count, Sequence, Endpoint, Disturbed, Resting, Order, NoMeant}
 use Rattle.refusal.specs.declared.Refusal.{Refusal}
-use Rattle.refusal.specs.declared.Refusal.the-variants.{Chart, Short, Plate, Choice, Position, Fault, Held, Move, Seen}
+use Rattle.refusal.specs.declared.Refusal.the-variants.{Chart, Short, Plate, Choice, Position, Ever, Fault, Held, Move, Seen}
 use Rattle.refusal.specs.declared.Numbers.{Numbers}
 
 -- the table's column "No."
@@ -40,6 +40,7 @@ refusalNumber Short = 10
 refusalNumber (Plate line) = 11
 refusalNumber Choice = 12
 refusalNumber Position = 13
+refusalNumber Ever = 19
 refusalNumber (Fault position condition) = 14
 refusalNumber Held = 18
 refusalNumber Move = 15
@@ -52,6 +53,7 @@ refusalLine Short = 0
 refusalLine (Plate line) = line
 refusalLine Choice = 0
 refusalLine Position = 0
+refusalLine Ever = 0
 refusalLine (Fault position condition) = 0
 refusalLine Held = 0
 refusalLine Move = 0
@@ -64,6 +66,7 @@ refusalPosition Short = 0
 refusalPosition (Plate line) = 0
 refusalPosition Choice = 0
 refusalPosition Position = 0
+refusalPosition Ever = 0
 refusalPosition (Fault position condition) = position
 refusalPosition Held = 0
 refusalPosition Move = 0
@@ -75,6 +78,7 @@ refusalCondition Short = 0
 refusalCondition (Plate line) = 0
 refusalCondition Choice = 0
 refusalCondition Position = 0
+refusalCondition Ever = 0
 refusalCondition (Fault position condition) = condition
 refusalCondition Held = 0
 refusalCondition Move = 0

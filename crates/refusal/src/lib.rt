@@ -17,14 +17,15 @@ pub enum Misdrawn {
     NoMeant(usize),
 }
 
-// The table: a chart's refusal, then 10 to 16 and 18 in the order of their tests. 11 has the plate's line, 14 the fault's position and
-// condition. 18 is tested between 14 and 15 (document 02, order 5).
+// The table: a chart's refusal, then 10 to 16, 18 and 19 in the order of their tests. 11 has the plate's line, 14 the fault's position and
+// condition. 18 is tested between 14 and 15 (document 02, order 5), 19 after 13, by the way to ruin only (document 02, order 6).
 pub enum Refusal {
     Chart(Misdrawn),
     Short,
     Plate(usize),
     Choice,
     Position,
+    Ever,
     Fault(usize, u8),
     Held,
     Move,
@@ -99,6 +100,7 @@ impl Refusal {
             Refusal::Plate(_) => 11,
             Refusal::Choice => 12,
             Refusal::Position => 13,
+            Refusal::Ever => 19,
             Refusal::Fault(_, _) => 14,
             Refusal::Held => 18,
             Refusal::Move => 15,
@@ -115,6 +117,7 @@ impl Refusal {
             Refusal::Plate(line) => line,
             Refusal::Choice => 0,
             Refusal::Position => 0,
+            Refusal::Ever => 0,
             Refusal::Fault(_, _) => 0,
             Refusal::Held => 0,
             Refusal::Move => 0,
@@ -131,6 +134,7 @@ impl Refusal {
             Refusal::Plate(_) => 0,
             Refusal::Choice => 0,
             Refusal::Position => 0,
+            Refusal::Ever => 0,
             Refusal::Fault(position, _) => position,
             Refusal::Held => 0,
             Refusal::Move => 0,
@@ -147,6 +151,7 @@ impl Refusal {
             Refusal::Plate(_) => 0,
             Refusal::Choice => 0,
             Refusal::Position => 0,
+            Refusal::Ever => 0,
             Refusal::Fault(_, condition) => condition,
             Refusal::Held => 0,
             Refusal::Move => 0,

@@ -10,7 +10,7 @@ use Rattle.chart.specs.Meaning.{arenaOf}
 use Rattle.chart.specs.Examined.{examined}
 use Rattle.rows.specs.declared.Chart.{Chart}
 use Rattle.refusal.specs.declared.Refusal.{Refusal}
-use Rattle.refusal.specs.declared.Refusal.the-variants.{Chart as OfChart, Short, Plate, Choice, Position, Fault, Held, Move, Seen}
+use Rattle.refusal.specs.declared.Refusal.the-variants.{Chart as OfChart, Short, Plate, Choice, Position, Ever, Fault, Held, Move, Seen}
 use Rattle.chart.specs.declared.Examination.the-variants.{Accepted as Taken, Refused as Turned}
 use Rattle.plate.specs.Form.{OfForm}
 use Rattle.plate.specs.Read.{valueIn, choiceIn}
@@ -39,6 +39,7 @@ StartRefused text plate position Position = Readable text plate × (size (arenaO
 StartRefused text plate position (Fault v c) = FaultIs text plate v c × (position < size (arenaOf text))
 StartRefused text plate position Short = ⊥
 StartRefused text plate position Choice = ⊥
+StartRefused text plate position Ever = ⊥
 StartRefused text plate position Held = ⊥
 StartRefused text plate position Move = ⊥
 StartRefused text plate position Seen = ⊥
@@ -75,6 +76,7 @@ ReportRefused run text plate to Move = Moves run text plate to Neither
 ReportRefused run text plate to Seen = Moves run text plate to Disturbance × (99999 ≤ run .seen)
 ReportRefused run text plate to Short = ⊥
 ReportRefused run text plate to Choice = ⊥
+ReportRefused run text plate to Ever = ⊥
 
 -- beside the run that it hands back
 abbrev pub ReportIs : Run → List ℕ → List ℕ → ℕ → Run → Answer → Type 0

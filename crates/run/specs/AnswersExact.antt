@@ -15,7 +15,7 @@ use Rattle.chart.specs.Examined.{examined}
 use Rattle.chart.specs.Accepted.{accepted-few, accepted-size}
 use Rattle.rows.specs.declared.Chart.{Chart}
 use Rattle.refusal.specs.declared.Refusal.{Refusal}
-use Rattle.refusal.specs.declared.Refusal.the-variants.{Chart as OfChart, Short, Plate, Choice, Position, Fault, Held, Move, Seen}
+use Rattle.refusal.specs.declared.Refusal.the-variants.{Chart as OfChart, Short, Plate, Choice, Position, Ever, Fault, Held, Move, Seen}
 use Rattle.chart.specs.declared.Examination.{Examination}
 use Rattle.chart.specs.declared.Examination.the-variants.{Accepted as Taken, Refused as Turned}
 use Rattle.plate.specs.Exact.{bad-line-exact, form-exact}
@@ -149,6 +149,7 @@ module _ (run : Run) (text plate : List ℕ) (to : ℕ) where
   refusal-from Seen (w, l) = moved-report Disturbance w ∙ rw (le-ltb (run .seen) 99999 l)
   refusal-from Short is = absurd is
   refusal-from Choice is = absurd is
+  refusal-from Ever is = absurd is
 
   from : (after : Run) (r : Answer) → ReportIs run text plate to after r → reported run text plate to ≡ record { run = after; answer = r }
   unfolding reportedMove standing unmoved
@@ -222,6 +223,7 @@ module _ (text plate : List ℕ) (position : ℕ) where
   start-refusal (Fault v c) (is, l) = inside-start (faulty-readable is) l (FaultAt v c) (faulty-at text plate v c is)
   start-refusal Short is = absurd is
   start-refusal Choice is = absurd is
+  start-refusal Ever is = absurd is
   start-refusal Held is = absurd is
   start-refusal Move is = absurd is
   start-refusal Seen is = absurd is

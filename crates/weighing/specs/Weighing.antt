@@ -10,7 +10,7 @@ use Rattle.rows.specs.Rows.{RowIs, Filled, Stays, RowsOf}
 use Rattle.rows.specs.Numbers.{numberOf, valueOf, rowValue}
 use Rattle.search.specs.Below.{someBelow}
 use Rattle.game.specs.Value.{Value}
-use Rattle.game.specs.Arena.{Arena, size, ownerAt}
+use Rattle.game.specs.Arena.{Arena, WellFormed, size, ownerAt}
 use Rattle.game.specs.Play.{Legal, positional}
 use Rattle.game.specs.Worth.{WorthIs}
 use Rattle.game.specs.Restrict.{restricted}
@@ -36,10 +36,16 @@ pub record WorthRow (a : Arena) (n : ℕ) (choices worths worths′ : List ℕ) 
   pub worth : (v : ℕ) → v < n → WorthIs a (positional a (rowValue choices) legal) v (valueOf (getD worths′ v 0))
   pub row : Filled worths worths′ n (λ v. numberOf (roundValue (restricted a (rowValue choices)) v))
 
+-- the rows of the moves that stay where the controller makes these choices, and of the worths
+pub record WeighedRows (a : Arena) (choice : ℕ → Value) (n m : ℕ) (owners marks costs froms tos worths : List ℕ) : Type 0 where
+  pub well : WellFormed a
+  pub legal : Legal a choice
+  pub rows : RowsOf (restricted a choice) n m owners marks costs froms tos
+  pub worth : RowIs worths n (λ v. numberOf (roundValue (restricted a choice) v))
+
 -- the rounds of the restricted arena, where the choices are legal
-pub record RestrictedSolved (n m : ℕ) (owners marks costs froms tos choices worths worths′ : List ℕ) : Type 0 where
-  pub rows : (a : Arena) → RowsOf a n m owners marks costs froms tos → Legal a (rowValue choices)
-      → RowIs worths′ n (λ v. numberOf (roundValue (restricted a (rowValue choices)) v))
+pub record RestrictedSolved (n m : ℕ) (owners marks costs froms tos choices worths : List ℕ) (count : ℕ) (costs′ froms′ tos′ worths′ : List ℕ) : Type 0 where
+  pub rows : (a : Arena) → RowsOf a n m owners marks costs froms tos → Legal a (rowValue choices) → WeighedRows a (rowValue choices) n count owners marks costs′ froms′ tos′ worths′
   pub stay : Stays n worths worths′
 
 -- weighing decoded rows: whether the choices are legal, and then the worths

@@ -176,7 +176,7 @@ module _ {n m : ℕ} {owners marks costs froms tos choices worths : List ℕ} wh
         }
 
     pub weighed-legal : {worths′ : List ℕ} → not (someBelow (λ v. not (isLegal owners choices flags v)) n) ≡ true
-        → RestrictedSolved n m owners marks costs froms tos choices worths worths′ → length worths′ ≡ length worths
+        → {count : ℕ} {costs′ froms′ tos′ : List ℕ} → RestrictedSolved n m owners marks costs froms tos choices worths count costs′ froms′ tos′ worths′ → length worths′ ≡ length worths
         → RowsWeighed n m owners marks costs froms tos choices worths worths′ true
     weighed-legal {worths′} e solved same =
         record {
@@ -189,7 +189,7 @@ module _ {n m : ℕ} {owners marks costs froms tos choices worths : List ℕ} wh
         worth-row a d =
             let c = rowValue choices in
             let legal : Legal a c = flags-say-legal a n m owners marks costs froms tos choices d flags noted e in
-            let row = solved .rows a d legal in
+            let row = solved .rows a d legal .worth in
             let p = d .positions in
             let few = d .few-positions in
             record {
@@ -204,10 +204,15 @@ module _ {n m : ℕ} {owners marks costs froms tos choices worths : List ℕ} wh
 pub restricted-solved : {n m count : ℕ} {owners marks costs froms tos choices costs′ froms′ tos′ worths worths′ steps steps′ : List ℕ}
     → Copied owners costs froms tos choices m count costs′ froms′ tos′ → count ≤ length costs′ → count ≤ length froms′ → count ≤ length tos′
     → Solved n count owners marks costs′ froms′ tos′ worths steps worths′ steps′
-    → RestrictedSolved n m owners marks costs froms tos choices worths worths′
+    → RestrictedSolved n m owners marks costs froms tos choices worths count costs′ froms′ tos′ worths′
 restricted-solved {n} {m} {count} {owners} {marks} {costs} {froms} {tos} {choices} {costs′} {froms′} {tos′} copied lc lf lt solved =
     record {
-      rows = λ a d legal. solved-worths a n m owners marks costs froms tos choices d count costs′ froms′ tos′ copied legal lc lf lt solved;
+      rows = λ a d legal. record {
+        well = d .well;
+        legal = legal;
+        rows = copied-rows a n m owners marks costs froms tos choices d count costs′ froms′ tos′ copied legal lc lf lt;
+        worth = solved-worths a n m owners marks costs froms tos choices d count costs′ froms′ tos′ copied legal lc lf lt solved;
+      };
       stay = solved .values-stay;
     }
 

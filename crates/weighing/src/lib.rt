@@ -78,12 +78,29 @@ pub fn weigh_rows(
     if !all_legal(n, owners, choices, &flags) {
         return false;
     }
-    solve_restricted(n, m, owners, marks, costs, froms, tos, choices, worths);
+    let mut costskept = [0u8; Chart::MOVES];
+    let mut fromskept = [0u16; Chart::MOVES];
+    let mut toskept = [0u16; Chart::MOVES];
+    solve_restricted(
+        n,
+        m,
+        owners,
+        marks,
+        costs,
+        froms,
+        tos,
+        choices,
+        &mut costskept,
+        &mut fromskept,
+        &mut toskept,
+        worths,
+    );
     true
 }
 
-// Solves the moves that stay when the controller makes these choices, which are legal.
-fn solve_restricted(
+// Copies the moves that stay when the controller makes these choices, which are legal, and solves them: the worths. Answers how many
+// moves stay. There is room for m of them and for n worths.
+pub fn solve_restricted(
     n: usize,
     m: usize,
     owners: &[u8],
@@ -92,15 +109,16 @@ fn solve_restricted(
     froms: &[u16],
     tos: &[u16],
     choices: &[u16],
+    costskept: &mut [u8],
+    fromskept: &mut [u16],
+    toskept: &mut [u16],
     worths: &mut [u16],
-)
+) -> usize
     requires { ⌜ ((a : Arena) × (RowsOf a n m (now owners) (now marks) (now costs) (now froms) (now tos) × Legal a (rowValue (now choices)))) × (n ≤ length (now choices)) × (n ≤ length (now worths)) ⌝ }
-    ensures { λ _. ⌜ RestrictedSolved n m (now (owners .entry)) (now (marks .entry)) (now (costs .entry)) (now (froms .entry)) (now (tos .entry)) (now (choices .entry)) (now (worths .entry)) (now (worths .exit)) ⌝ }
+    requires { ⌜ (m ≤ length (now costskept)) × (m ≤ length (now fromskept)) × (m ≤ length (now toskept)) ⌝ }
+    ensures { λ r. ⌜ RestrictedSolved n m (now (owners .entry)) (now (marks .entry)) (now (costs .entry)) (now (froms .entry)) (now (tos .entry)) (now (choices .entry)) (now (worths .entry)) r (now (costskept .exit)) (now (fromskept .exit)) (now (toskept .exit)) (now (worths .exit)) ⌝ }
 {
     let mut steps = [0u16; Chart::POSITIONS];
-    let mut costskept = [0u8; Chart::MOVES];
-    let mut fromskept = [0u16; Chart::MOVES];
-    let mut toskept = [0u16; Chart::MOVES];
     let count = restrict(
         n,
         m,
@@ -109,19 +127,20 @@ fn solve_restricted(
         froms,
         tos,
         choices,
-        &mut costskept,
-        &mut fromskept,
-        &mut toskept,
+        costskept,
+        fromskept,
+        toskept,
     );
     solve(
         n,
         count,
         owners,
         marks,
-        &costskept,
-        &fromskept,
-        &toskept,
+        costskept,
+        fromskept,
+        toskept,
         worths,
         &mut steps,
     );
+    count
 }

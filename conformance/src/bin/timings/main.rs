@@ -1,7 +1,7 @@
 //! The timings: the library, through its C interface, beside the fast solver in Rust, on the same inputs in one run.
 
 use conformance::blanks::leave_out;
-use conformance::capi::{self, Run};
+use conformance::capi::{self, Listed, Run};
 use conformance::chart::{Chart, Owner, Position, MOVES, POSITIONS};
 use conformance::measure::{stack, times};
 use conformance::model::Subject;
@@ -15,19 +15,21 @@ use std::hint::black_box;
 
 mod lines;
 
-const JOBS: [&str; 5] = ["value", "write", "check", "weigh", "good"];
+const JOBS: [&str; 6] = ["value", "write", "check", "weigh", "good", "ruin"];
 
 /// The shape of the random charts with an even mix.
 const EVEN: Shape = Shape { lane: 30, hazards: 5, meant: 8, disturbances: 8, reach: Reach::Anywhere };
 
-/// What the jobs are given: a chart with its plate, the plate's choices, and a run with a report; and the count of good
-/// moves that is to be answered.
+/// What the jobs are given: a chart with its plate, the plate's choices, a run with a report, and the position with the longest
+/// way to ruin; and what is to be answered, the count of good moves and that of the way's lines.
 struct Input {
     chart: Vec<u8>,
     plate: Vec<u8>,
     choices: Vec<u16>,
     report: (Run, usize),
     good_moves: usize,
+    position: usize,
+    way: Listed,
 }
 
 impl Input {
@@ -38,7 +40,11 @@ impl Input {
         let choices = subject.valuation(chart).choices.clone();
         let report = first_report(&subject, chart);
         let good_moves = subject.good_moves(12 * MOVES).0.lines;
-        Input { plate, choices, report, good_moves, chart: text }
+        let ruin = |position| solver::ruin(&text, &choices, position, &mut [0; 12 * POSITIONS]);
+        // Where there is no way from anywhere, 19 is answered from every position.
+        let position = (0..chart.len()).max_by_key(|&position| ruin(position).lines).expect("there is a position");
+        let way = ruin(position);
+        Input { plate, choices, report, good_moves, position, way, chart: text }
     }
 }
 
@@ -47,11 +53,13 @@ struct Lent {
     rows: [[u16; POSITIONS]; 3],
     plate: [u8; 22 * (POSITIONS + 1)],
     sheet: [u8; 12 * MOVES],
+    way: [u8; 12 * POSITIONS],
 }
 
 impl Lent {
     fn new() -> Lent {
-        Lent { rows: [[0; POSITIONS]; 3], plate: [0; 22 * (POSITIONS + 1)], sheet: [0; 12 * MOVES] }
+        let (plate, sheet) = ([0; 22 * (POSITIONS + 1)], [0; 12 * MOVES]);
+        Lent { rows: [[0; POSITIONS]; 3], plate, sheet, way: [0; 12 * POSITIONS] }
     }
 }
 
@@ -63,7 +71,8 @@ fn library(job: usize, input: &Input, lent: &mut Lent) {
         1 => assert_eq!(capi::write(&input.chart, &mut lent.plate).length, input.plate.len()),
         2 => assert_eq!(capi::check(&input.chart, &input.plate).number, 0),
         3 => assert_eq!(capi::weigh(&input.chart, &input.choices, values).number, 0),
-        _ => assert_eq!(capi::good_moves(&input.chart, &mut lent.sheet).lines, input.good_moves),
+        4 => assert_eq!(capi::good_moves(&input.chart, &mut lent.sheet).lines, input.good_moves),
+        _ => assert_eq!(capi::ruin(&input.chart, &input.choices, input.position, &mut lent.way), input.way),
     }
     black_box(lent);
 }
@@ -76,7 +85,8 @@ fn rust(job: usize, input: &Input, lent: &mut Lent) {
         1 => assert_eq!(solver::write(&input.chart, &mut lent.plate).length, input.plate.len()),
         2 => assert_eq!(solver::check(&input.chart, &input.plate).number, 0),
         3 => assert_eq!(solver::weigh(&input.chart, &input.choices, values).number, 0),
-        _ => assert_eq!(solver::good_moves(&input.chart, &mut lent.sheet).lines, input.good_moves),
+        4 => assert_eq!(solver::good_moves(&input.chart, &mut lent.sheet).lines, input.good_moves),
+        _ => assert_eq!(solver::ruin(&input.chart, &input.choices, input.position, &mut lent.way), input.way),
     }
     black_box(lent);
 }
@@ -86,8 +96,8 @@ fn both(job: usize, input: &Input) -> (f64, f64) {
     let (mut one, mut other) = (Lent::new(), Lent::new());
     library(job, input, &mut one);
     rust(job, input, &mut other);
-    let alike = one.rows == other.rows && one.plate == other.plate && one.sheet == other.sheet;
-    assert!(alike, "the two answer alike");
+    let sheets_alike = one.plate == other.plate && one.sheet == other.sheet && one.way == other.way;
+    assert!(one.rows == other.rows && sheets_alike, "the two answer alike");
     times(|| library(job, input, &mut one), || rust(job, input, &mut other))
 }
 
@@ -201,6 +211,24 @@ fn reports() {
     }
 }
 
+/// A way to ruin, the longest of its chart, beside Valuing and Weighing.
+fn ways() {
+    println!(
+        "\nThe longest way to ruin by the plate's choices, 0 lines where there is none, beside Valuing and Weighing"
+    );
+    println!("of the same chart, all the library's. Microseconds a call, and the multiple of Weighing's.\n");
+    println!("{:<40}{:>7}{:>10}{:>10}{:>10}{:>8}", "chart", "lines", "ruin", "value", "weigh", "ratio");
+    for (name, chart) in kinds().into_iter().chain(small_kinds()) {
+        let input = Input::new(&chart);
+        let mut lent = [Lent::new(), Lent::new()];
+        let [one, other] = &mut lent;
+        let (_, value) = times(|| library(5, &input, one), || library(0, &input, other));
+        let (ruin, weigh) = times(|| library(5, &input, one), || library(3, &input, other));
+        let lines = input.way.lines;
+        println!("{name:<40}{lines:>7}{ruin:>10.2}{value:>10.2}{weigh:>10.2}{:>8.2}", ruin / weigh);
+    }
+}
+
 fn small_kinds() -> [(&'static str, Chart); 2] {
     [("32 positions, even mix", shaped(32, 256, EVEN)), ("32 positions, chain", lane_chain(32, 256))]
 }
@@ -248,6 +276,7 @@ fn main() {
     reading();
     lines::lines();
     reports();
+    ways();
     growth();
     memory();
 }

@@ -7,10 +7,10 @@ use Rattle.jobs_test.proofs.cases.Statement.{statement}
 use Rattle.jobs_test.proofs.cases.Tie as tie
 
 abbrev Inv-loop : tie.InvT-loop
-Inv-loop input at₀ run₀ k₀ at run k = k ≤ 800
+Inv-loop input at₀ run₀ k₀ at run k = k ≤ 1000
 
 abbrev μ-loop : tie.MeasureT-loop
-μ-loop input at₀ run₀ k₀ at run k = 800 - k
+μ-loop input at₀ run₀ k₀ at run k = 1000 - k
 
 none-requires : tie.Need-none-requires Inv-loop μ-loop
 none-requires c κs = search needs

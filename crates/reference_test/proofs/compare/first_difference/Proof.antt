@@ -5,10 +5,10 @@ use Rattle.reference_test.proofs.compare.first_difference.Statement.{st
 use Rattle.reference_test.proofs.compare.first_difference.Tie as tie
 
 abbrev Inv-loop : tie.InvT-loop
-Inv-loop table n v₀ v = v ≤ n
+Inv-loop table a b n v₀ v = v ≤ n
 
 abbrev μ-loop : tie.MeasureT-loop
-μ-loop table n v₀ v = n - v
+μ-loop table a b n v₀ v = n - v
 
 loop-holds : tie.Need-loop-holds Inv-loop μ-loop
 loop-holds c = search needs

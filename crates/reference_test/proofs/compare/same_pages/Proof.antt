@@ -1,14 +1,14 @@
--- `reference_test::compare::same_pages` is safe and ends: it counts `i` up to 65,536.
+-- `reference_test::compare::same_pages` is safe and ends: it counts `i` up to `size`.
 use Prim.Native.Nat.{_-_, _≤_}
 use borrow.Author.Needs.{needs}
 use Rattle.reference_test.proofs.compare.same_pages.Statement.{statement}
 use Rattle.reference_test.proofs.compare.same_pages.Tie as tie
 
 abbrev Inv-loop : tie.InvT-loop
-Inv-loop a b i₀ i = i ≤ 65536
+Inv-loop a b size i₀ i = i ≤ size
 
 abbrev μ-loop : tie.MeasureT-loop
-μ-loop a b i₀ i = 65536 - i
+μ-loop a b size i₀ i = size - i
 
 loop-holds : tie.Need-loop-holds Inv-loop μ-loop
 loop-holds c = search needs
