@@ -33,7 +33,8 @@
  *                                        A safe R without disturbances reads "ever"
  * A plate is of the form if the first line's count is the chart's and each other number is within its bounds: rounds and evers 0
  * to 512; highest, value and step 0 to 511; choice below the count of positions.
- * In rows of numbers a position's entry stands at its number, and DUSHEMQA_NONE stands for "ever" and for "-".
+ * In rows of numbers a position's entry stands at its number, and DUSHEMQA_NONE stands for "ever" and for "-". In the rows of a
+ * house a lane's entry stands at its number, from 0 up.
  *
  * A sheet of good moves is text in the chart's columns, without a first line:
  *     G position target   a line for each meant move of an O position whose target has at least the position's own value, in the
@@ -47,7 +48,7 @@
  *                         after the first are the moves
  *
  * On a refusal everything that was lent is as it was, a run comes back as it was handed in, and all other numbers of the
- * answer are 0, save the position where a start began no run.
+ * answer are 0, save the position where a start began no run and the lane whose report a house refused.
  */
 #ifndef DUSHEMQA_H
 #define DUSHEMQA_H
@@ -73,16 +74,20 @@ extern "C" {
 #define DUSHEMQA_CHART_LINE_BYTES 12
 #define DUSHEMQA_PLATE_LINE_BYTES 22
 
-/* "ever" as a value or a worth; "-" as a choice, a step or a highest value. */
+/* "ever" as a value or a worth; "-" as a choice, a step or a highest value; no report of a lane. */
 #define DUSHEMQA_NONE 65535
 
 /* The most disturbances that a run counts. */
 #define DUSHEMQA_MAX_SEEN 99999
 
-/* Why a job refused. 1 to 9 and 17 are the chart's: every job tests them first, 9 last, and answers the lowest line at fault; 17
- * is tested beside 7, after 6 and before 8. Of 10 to 16, 18 and 19 a job answers the first that applies, by number, save that 18
- * is tested after 14 and before 15, and that dushemqa_ruin tests 19 after 13 and then 10 once more, for the sheet; its own list
- * says which it has. */
+/* The most lanes of a house. */
+#define DUSHEMQA_MAX_LANES 64
+
+/* Why a job refused. 1 to 9 and 17 are the chart's: every job tests them first, save that dushemqa_report_house tests 20 before
+ * them; 9 comes last of them, and the lowest line at fault is answered; 17 is tested beside 7, after 6 and before 8. Of 10 to 16,
+ * 18 and 19 a job answers the first that applies, by number, save that 18 is tested after 14 and before 15, that dushemqa_ruin
+ * tests 19 after 13 and then 10 once more, for the sheet, and that dushemqa_report_house tests 14 before the lanes' 13. Its own
+ * list says which a job has. */
 enum dushemqa_number {
     DUSHEMQA_TAKEN = 0,             /* nothing was refused */
     DUSHEMQA_REFUSED_LENGTH = 1,    /* chart empty, over 55,308 bytes, or no multiple of 12 */
@@ -103,7 +108,8 @@ enum dushemqa_number {
     DUSHEMQA_REFUSED_SEEN = 16,     /* a disturbance with DUSHEMQA_MAX_SEEN or more seen */
     DUSHEMQA_REFUSED_RESTING = 17,  /* a meant move from a position of rest */
     DUSHEMQA_REFUSED_HELD = 18,     /* the plate's value at the run's position is not the one that the run holds */
-    DUSHEMQA_REFUSED_EVER = 19      /* the worth at the position is "ever": no play from there is unsafe */
+    DUSHEMQA_REFUSED_EVER = 19,     /* the worth at the position is "ever": no play from there is unsafe */
+    DUSHEMQA_REFUSED_LANES = 20     /* no lanes, more than DUSHEMQA_MAX_LANES, or not as many reports as lanes */
 };
 
 /* The conditions of a plate that dushemqa_check tests, at each position from 0 up:
@@ -181,6 +187,13 @@ typedef struct {
     dushemqa_run run;
     dushemqa_advice advice;
 } dushemqa_step;
+
+/* What the report of a house answers. */
+typedef struct {
+    dushemqa_refusal refusal;
+    size_t lane;  /* the lane whose report was refused (13, 15, 16, 18), else 0 */
+    size_t moved; /* how many lanes reported, all of which moved; 0 on a refusal */
+} dushemqa_house;
 
 /* What Listing and Ruin answer. */
 typedef struct {
@@ -303,6 +316,24 @@ dushemqa_listed dushemqa_ruin(const uint8_t *chart, size_t chart_length,
                               const uint16_t *choices, size_t choices_length,
                               size_t position,
                               uint8_t *sheet, size_t sheet_length);
+
+/* Report of a house: one console drives up to DUSHEMQA_MAX_LANES lanes of the same machine, and some of them went to a position.
+ * Either every lane that reports moves, its record becoming the run that dushemqa_report hands back for it with the same texts,
+ * and the other records stay; or the call is refused and no record changes. So what dushemqa_report says of a run holds at each
+ * lane of the house, whichever texts each call is lent, and a lane may be reported by this function and by dushemqa_report in
+ * turn. The advice for a lane is the plate's choice and value at its new position, as dushemqa_read gives them.
+ * The plate is checked once, also when no lane reports. Then, of the lanes that report, the lowest whose report is refused is
+ * answered. A lane that reports nothing is not tested, whatever its record holds.
+ *   runs, runs_length        a run for each lane, as a start or the last report left it
+ *   reports, reports_length  for each lane where its machine went, DUSHEMQA_NONE if it reports nothing
+ *   chart, chart_length      the chart's bytes
+ *   plate, plate_length      the plate's bytes
+ * Refusals, in this order: 20; 1 to 9 and 17; 11; 14 with the first fault; then, with the lowest lane that has one, 13 for its
+ * report or for its run's own position; 18; 15; 16. A single report tests 13 before 14. */
+dushemqa_house dushemqa_report_house(dushemqa_run *runs, size_t runs_length,
+                                     const uint16_t *reports, size_t reports_length,
+                                     const uint8_t *chart, size_t chart_length,
+                                     const uint8_t *plate, size_t plate_length);
 
 #ifdef __cplusplus
 }

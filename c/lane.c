@@ -56,6 +56,13 @@ static const struct command commands[] = {
      "They are tested by the next report: the plate must be accepted and have the value that the run holds where it\n"
      "stands. Where a file can't be read the texts stay as they were, and the status is 1 at the end. Messages count\n"
      "reports and swaps alike.\n"},
+    {"house", "CHART PLATE START...", 3, 2 + DUSHEMQA_MAX_LANES, NULL, house_command, "follow a house of lanes by their reports",
+     "Starts a run at each position START, one for each lane from 0 up, at most 64. Each line of standard input is a row of\n"
+     "reports, one word for each lane: the number of the position that its machine went to, or - if it reports nothing.\n"
+     "After each row a line says how many lanes move, and a line for each of these where it stands, as 'lane run' does.\n"
+     "Either all lanes of a row move that report, or none does: then the lowest lane whose report is refused is said on\n"
+     "standard error, the house goes on from where it stood, and the status is 1 at the end. The plate is checked at each\n"
+     "row, also at one of - only. A line 'swap CHART PLATE' is as for 'lane run'. Messages count rows and swaps alike.\n"},
     {"collection", "FOLDER [--write]", 1, 1, "--write", collection_command, "every chart of a folder against its plate",
      "A line for each chart (*.chart, *.txt) in FOLDER, by name, and a summary. A chart is accepted, faulted (its plate is\n"
      "wrong), missing (its plate is), refused (it is no chart), or failed (a file can't be read or written). The plate lies\n"
@@ -79,7 +86,7 @@ static void show_usage(FILE *out)
 {
     fprintf(out, "usage: lane COMMAND WORDS\n\n");
     for (size_t i = 0; i < COMMANDS; i++)
-        fprintf(out, "  lane %-10s %-19s  %s\n", commands[i].name, commands[i].words, commands[i].summary);
+        fprintf(out, "  lane %-10s %-20s  %s\n", commands[i].name, commands[i].words, commands[i].summary);
     fprintf(out, "\nCHART and PLATE are files, as c/dushemqa.h describes them. 'lane COMMAND --help' says more of a command.\n"
                  "Answers go to standard output, messages to standard error. The status is 0 for taken, 1 for refused or\n"
                  "faulted, 2 for usage or a file that can't be read or written.\n");

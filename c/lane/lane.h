@@ -31,6 +31,7 @@ enum status compare_command(const struct call *call);
 enum status good_command(const struct call *call);
 enum status ruin_command(const struct call *call);
 enum status run_command(const struct call *call);
+enum status house_command(const struct call *call);
 enum status collection_command(const struct call *call);
 enum status picture_command(const struct call *call);
 enum status explain_command(const struct call *call);
@@ -89,6 +90,38 @@ struct word {
     char letters[8];
 };
 struct word word_of(uint16_t number, const char *none);
+
+/* desk.c: runs by lines of standard input, one for lane run and one a lane for lane house. As many letters of a line are kept as
+ * two names may have that can be opened, with the word before them. */
+enum { LETTERS = 8200 };
+
+/* A line of standard input: its number from 1, its length, and as many of its first letters as are looked at. */
+struct line {
+    size_t number;
+    size_t length;
+    char letters[LETTERS];
+};
+
+/* A machine's card: a chart and a plate that are lent together, and their names where a swap gave them. */
+struct card {
+    struct text chart, plate;
+    char names[LETTERS];
+};
+
+/* The runs, the card that their reports are lent, and a place for the next one. */
+struct desk {
+    bool house;
+    size_t lanes;
+    dushemqa_run runs[DUSHEMQA_MAX_LANES];
+    struct card *lent, *spare;
+    struct card cards[2];
+};
+enum status open_desk(struct desk *desk, const struct call *call, const char *usage);
+enum status follow(struct desk *desk, bool (*take)(struct desk *desk, const struct line *line));
+size_t next_word(const char **rest, size_t *length, const char **word);
+void show_run(dushemqa_run run, dushemqa_advice advice, bool disturbance);
+void refuse(const struct desk *desk, const char *what, const struct line *line);
+void say_why(const struct card *card, dushemqa_run run, dushemqa_refusal refusal);
 
 /* column.c: which parts of a chart's line a refusal is about, a bit for each. */
 enum { PARTS = 4 };

@@ -39,6 +39,7 @@ static const struct refusal_words refusals[] = {
                                "a report"},
     [DUSHEMQA_REFUSED_EVER] = {NO_SHEET, "the worth at the position is \"ever\": no play from there is unsafe",
                                "the start of a way to ruin"},
+    [DUSHEMQA_REFUSED_LANES] = {NO_SHEET, "no lanes, more than 64, or not as many reports as lanes", "a row of a house"},
 };
 
 enum { REFUSALS = sizeof refusals / sizeof refusals[0] };

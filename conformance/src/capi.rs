@@ -1,6 +1,6 @@
 //! The declarations of `c/dushemqa.h` once more, and calls over slices in place of pointers and lengths.
 
-/// "ever" as a value or a worth; "-" as a choice, a step or a highest value.
+/// "ever" as a value or a worth; "-" as a choice, a step or a highest value; no report of a lane.
 pub const NONE: u16 = 65_535;
 
 #[repr(C)]
@@ -88,6 +88,14 @@ pub struct Listed {
     pub lines: usize,
 }
 
+#[repr(C)]
+#[derive(Clone, Copy, Debug, Default, PartialEq, Eq)]
+pub struct House {
+    pub refusal: Refusal,
+    pub lane: usize,
+    pub moved: usize,
+}
+
 #[rustfmt::skip]
 extern "C" {
     fn dushemqa_value(chart: *const u8, chart_length: usize, values: *mut u16, values_length: usize,
@@ -108,6 +116,8 @@ extern "C" {
     fn dushemqa_good_moves(chart: *const u8, chart_length: usize, sheet: *mut u8, sheet_length: usize) -> Listed;
     fn dushemqa_ruin(chart: *const u8, chart_length: usize, choices: *const u16, choices_length: usize,
                      position: usize, sheet: *mut u8, sheet_length: usize) -> Listed;
+    fn dushemqa_report_house(runs: *mut Run, runs_length: usize, reports: *const u16, reports_length: usize,
+                             chart: *const u8, chart_length: usize, plate: *const u8, plate_length: usize) -> House;
 }
 
 // In each call below a slice gives a pointer that is not null, as many elements as its length says, and, where it is
@@ -187,6 +197,21 @@ pub fn ruin(chart: &[u8], choices: &[u16], position: usize, sheet: &mut [u8]) ->
             position,
             sheet.as_mut_ptr(),
             sheet.len(),
+        )
+    }
+}
+
+pub fn report_house(runs: &mut [Run], reports: &[u16], chart: &[u8], plate: &[u8]) -> House {
+    unsafe {
+        dushemqa_report_house(
+            runs.as_mut_ptr(),
+            runs.len(),
+            reports.as_ptr(),
+            reports.len(),
+            chart.as_ptr(),
+            chart.len(),
+            plate.as_ptr(),
+            plate.len(),
         )
     }
 }

@@ -3,6 +3,7 @@
 
 mod check;
 mod good;
+mod house;
 mod parse;
 mod plate;
 mod ruin;
@@ -10,10 +11,11 @@ mod run;
 mod values;
 mod weigh;
 
-use crate::capi::{Compared, FirstLine, Listed, Reading, Refusal, Run, Step, Valued, Written};
+use crate::capi::{Compared, FirstLine, House, Listed, Reading, Refusal, Run, Step, Valued, Written};
 use crate::chart::Chart;
 use std::cell::OnceCell;
 
+pub use house::LANES;
 pub use plate::{plate_text, Plate};
 pub use ruin::{through, Play, Visit, Ways};
 pub use values::{summed, Valuation};
@@ -174,6 +176,14 @@ impl<'a> Subject<'a> {
             run,
             ..Step::default()
         })
+    }
+
+    /// The report of a house, and the records after it.
+    pub fn report_house(&self, runs: &[Run], reports: &[u16], plate: &[u8]) -> (House, Vec<Run>) {
+        match house::report(self, runs, reports, plate) {
+            Ok((moved, after)) => (House { moved, ..House::default() }, after),
+            Err((lane, refusal)) => (House { refusal, lane, moved: 0 }, runs.to_vec()),
+        }
     }
 
     /// Listing, with a buffer of this length lent.

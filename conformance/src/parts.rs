@@ -5,6 +5,7 @@ pub mod damage;
 pub mod damaged;
 pub mod drawn;
 pub mod examples;
+pub mod houses;
 pub mod pairs;
 pub mod rest;
 pub mod setting;

@@ -3,8 +3,9 @@
 use crate::capi::{self, Run};
 use crate::chart::{Chart, Owner, MOVES, POSITIONS};
 use crate::measure::stack;
-use crate::model::Subject;
+use crate::model::{Subject, LANES};
 use crate::tally::JOBS;
+use std::array::from_fn;
 
 /// The most that a call wants, as the header says.
 pub const MOST: usize = 96 << 10;
@@ -23,6 +24,7 @@ pub fn stacks(text: &[u8]) -> Vec<(&'static str, usize)> {
     let mut play = [0u8; 12 * POSITIONS];
     let taken = |number| assert_eq!(number, 0, "nothing was refused");
     let (run, to) = first_report(&subject, chart);
+    let (mut runs, reports) = full_house(&subject, chart);
     let last = chart.len() - 1;
     // Where no position is unsafe there is no way, but the search for one.
     let way = subject.play_to_ruin(choices, last).err().unwrap_or_default();
@@ -37,18 +39,31 @@ pub fn stacks(text: &[u8]) -> Vec<(&'static str, usize)> {
         stack(|| taken(capi::report(run, text, plate, to).refusal.number)),
         stack(|| taken(capi::good_moves(text, &mut sheet).refusal.number)),
         stack(|| assert_eq!(capi::ruin(text, choices, last, &mut play).refusal, way)),
+        stack(|| assert_eq!(capi::report_house(&mut runs, &reports, text, plate).moved, LANES)),
     ];
     JOBS.into_iter().zip(bytes).collect()
 }
 
 /// A run that stands at 0 of a chart, and a position that can follow.
 pub fn first_report(subject: &Subject, chart: &Chart) -> (Run, usize) {
-    let (value, choice) = (subject.valuation(chart).values[0], subject.valuation(chart).choices[0]);
-    let position = &chart.positions[0];
+    report_at(subject, chart, 0).expect("a move leaves position 0")
+}
+
+/// A full house whose lanes all report: they stand all over the chart, the last at the last position that a move leaves.
+pub fn full_house(subject: &Subject, chart: &Chart) -> ([Run; LANES], [u16; LANES]) {
+    let able: Vec<(Run, usize)> = (0..chart.len()).filter_map(|position| report_at(subject, chart, position)).collect();
+    let lane = |lane: usize| able[(able.len() - 1) * lane / (LANES - 1)];
+    (from_fn(|number| lane(number).0), from_fn(|number| lane(number).1 as u16))
+}
+
+/// A run that stands at a position, and one that can follow, if there is one.
+fn report_at(subject: &Subject, chart: &Chart, number: usize) -> Option<(Run, usize)> {
+    let valuation = subject.valuation(chart);
+    let (value, position) = (valuation.values[number], &chart.positions[number]);
     let to = match position.owner {
-        Owner::Console => choice,
+        Owner::Console => valuation.choices[number],
         Owner::Lane => position.meant[0],
-        Owner::Nobody => position.disturbances[0],
+        Owner::Nobody => *position.disturbances.first()?,
     };
-    (Run { position: 0, seen: 0, initial: value, value }, usize::from(to))
+    Some((Run { position: number, seen: 0, initial: value, value }, usize::from(to)))
 }

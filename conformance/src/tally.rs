@@ -1,19 +1,20 @@
 //! What was tried: inputs, calls, how often each job gave each refusal, and what was seen of blanks, of good moves, of
-//! positions of rest, of reports with other texts and of ways to ruin.
+//! positions of rest, of reports with other texts, of ways to ruin and of houses of lanes.
 
-use crate::{blanks, rests, sheets, swaps, ways};
+use crate::{blanks, houses, rests, sheets, swaps, ways};
 
 /// The jobs, in the order of the header.
-pub const JOBS: [&str; 10] = ["value", "write", "read", "check", "weigh", "compare", "start", "report", "good", "ruin"];
+pub const JOBS: [&str; 11] =
+    ["value", "write", "read", "check", "weigh", "compare", "start", "report", "good", "ruin", "house"];
 
 /// The refusals of the table, with 0 for none.
-const NUMBERS: usize = 20;
+const NUMBERS: usize = 21;
 
-/// The refusals from 10 to 16, 18 and 19 that each job has.
+/// The refusals from 10 to 16 and from 18 on that each job has.
 #[rustfmt::skip]
 const BEYOND: [&[usize]; JOBS.len()] = [
     &[10], &[10], &[10, 11], &[11, 14], &[10, 12], &[10, 11, 12, 14], &[11, 13, 14], &[11, 13, 14, 15, 16, 18], &[10],
-    &[10, 12, 13, 19],
+    &[10, 12, 13, 19], &[11, 13, 14, 15, 16, 18, 20],
 ];
 
 /// Fewer sightings than this of a refusal or a condition are too few to count as a test of it.
@@ -46,6 +47,8 @@ pub struct Tally {
     pub swaps: [u64; swaps::SIGHTS.len()],
     /// How often each of the sights of ways to ruin was seen.
     pub ways: [u64; ways::SIGHTS.len()],
+    /// How often each of the sights of houses was seen.
+    pub houses: [u64; houses::SIGHTS.len()],
 }
 
 impl Tally {
@@ -66,6 +69,7 @@ impl Tally {
         add_each(&mut self.rest_calls, &other.rest_calls);
         add_each(&mut self.swaps, &other.swaps);
         add_each(&mut self.ways, &other.ways);
+        add_each(&mut self.houses, &other.houses);
     }
 
     /// Counts what a report with other texts shows.
@@ -100,6 +104,7 @@ impl Tally {
         print_sights("calls at R", &rests::CALLS, &self.rest_calls);
         print_sights("reports with other texts", &swaps::SIGHTS, &self.swaps);
         print_sights("ways to ruin", &ways::SIGHTS, &self.ways);
+        print_sights("houses", &houses::SIGHTS, &self.houses);
     }
 
     /// What was seen too seldom for this to be a test of it, if all counts of inputs were divided by `divisor`.
@@ -132,7 +137,7 @@ impl Tally {
     }
 
     /// What is seen of inputs and calls beside the refusals.
-    fn sights(&self) -> [Sights<'_>; 6] {
+    fn sights(&self) -> [Sights<'_>; 7] {
         [
             ("a blank", &blanks::SIGHTS, &self.blanks),
             ("a sheet of good moves", &sheets::SIGHTS, &self.sheets),
@@ -140,6 +145,7 @@ impl Tally {
             ("a call at R", &rests::CALLS, &self.rest_calls),
             ("a report with other texts", &swaps::SIGHTS, &self.swaps),
             ("a way to ruin", &ways::SIGHTS, &self.ways),
+            ("a house", &houses::SIGHTS, &self.houses),
         ]
     }
 }

@@ -1,8 +1,10 @@
 //! One call of the library set against the model: the whole answer, and every lent byte or number after the call.
 
-use crate::capi::{self, Refusal, Run, Step, NONE};
+use crate::capi::{self, House, Refusal, Run, Step, NONE};
 use crate::chart::Chart;
-use crate::model::{self, plate_text, Plate, Subject};
+use crate::houses::Rows;
+use crate::model::{self, plate_text, Plate, Subject, LANES};
+use crate::swaps::sum_kept;
 use crate::tally::{Tally, JOBS};
 use crate::ways::Way;
 use crate::{blanks, rests, sheets, solver};
@@ -28,6 +30,13 @@ impl Pattern for u16 {
     }
 }
 
+impl Pattern for Run {
+    fn at(place: usize) -> Run {
+        let (seen, number) = (u32::from(u16::at(place)) << 16, u16::at(place + 1));
+        Run { position: usize::MAX - place, seen, initial: number, value: !number }
+    }
+}
+
 /// Memory to lend, with guards on both sides.
 #[derive(Debug, PartialEq)]
 pub struct Lent<T> {
@@ -37,6 +46,13 @@ pub struct Lent<T> {
 impl<T: Pattern> Lent<T> {
     pub fn new(length: usize) -> Lent<T> {
         Lent { cells: (0..length + 2 * GUARD).map(T::at).collect() }
+    }
+
+    /// Memory that holds this before the call.
+    pub fn of(front: &[T]) -> Lent<T> {
+        let mut lent = Lent::new(front.len());
+        lent.lend().copy_from_slice(front);
+        lent
     }
 
     pub fn lend(&mut self) -> &mut [T] {
@@ -66,6 +82,8 @@ struct Given<'a> {
     lengths: &'a [usize],
     run: Option<Run>,
     position: Option<usize>,
+    runs: &'a [Run],
+    reports: &'a [u16],
 }
 
 /// Calls the library and the model alike and counts; ends the program at the first mismatch.
@@ -236,6 +254,23 @@ impl Trial {
         }
     }
 
+    /// The report of a house, and each of its lanes by the library's own single report. These are not counted. Gives the
+    /// answer and the records after the call.
+    pub fn house(&mut self, subject: &Subject, rows: Rows, plate: &[u8]) -> (House, Vec<Run>) {
+        let (answer, after) = subject.report_house(rows.runs, rows.reports, plate);
+        let mut lent = Lent::of(rows.runs);
+        let got = capi::report_house(lent.lend(), rows.reports, subject.text, plate);
+        let given = Given { runs: rows.runs, reports: rows.reports, ..Given::default() };
+        self.settle(10, answer.refusal, got == answer && lent.holds(&after), || {
+            show(10, subject, plate, &given, &(answer, &after), &(got, lent.shown()))
+        });
+        for (count, seen) in self.tally.houses.iter_mut().zip(rows.sights(subject, plate, &answer, &after)) {
+            *count += u64::from(seen);
+        }
+        singly(subject, rows, plate, &answer, &after);
+        (answer, after)
+    }
+
     /// A positional controller is optimal exactly when all its choices at O are listed.
     pub fn controller(&mut self, subject: &Subject, chart: &Chart, choices: &[u16]) {
         let (_, worths) = subject.weigh(choices, chart.len());
@@ -320,6 +355,30 @@ fn ruined(way: &Way) {
     }
 }
 
+/// What document 02 says of a house: each lane that reports becomes what a single report gives it and the others stay, or no
+/// record changes and the lowest lane is answered that a single report refuses; and a report leaves no lane a smaller sum.
+fn singly(subject: &Subject, rows: Rows, plate: &[u8], answer: &House, after: &[Run]) {
+    let House { refusal, lane: refused, moved } = *answer;
+    let (taken, at_lane) = (refusal.number == 0, matches!(refusal.number, 13 | 15 | 16 | 18));
+    let fits = rows.runs.len() == rows.reports.len() && (1..=LANES).contains(&rows.runs.len());
+    assert_eq!(refusal.number == 20, !fits, "20 exactly where the rows don't fit: {rows:?}");
+    assert_eq!(moved, if taken { rows.reporting().count() } else { 0 }, "all that report move or none: {rows:?}");
+    for (lane, (&before, &after)) in rows.runs.iter().zip(after).enumerate() {
+        let silent = !taken || rows.reports[lane] == NONE;
+        assert!(sum_kept(before, after) && (!silent || before == after), "lane {lane}: {before:?} to {after:?}");
+    }
+    for lane in rows.reporting().filter(|&lane| refusal.number != 20 && !(at_lane && lane > refused)) {
+        let single = capi::report(rows.runs[lane], subject.text, plate, usize::from(rows.reports[lane]));
+        let as_asked = match refusal.number {
+            0 => single.refusal == refusal && single.run == after[lane],
+            _ if at_lane && lane < refused => single.refusal.number == 0,
+            14 => single.refusal == refusal || single.refusal.number == 13,
+            _ => single.refusal == refusal,
+        };
+        assert!(as_asked, "lane {lane} of {rows:?}: {single:?} alone, {answer:?} in the house");
+    }
+}
+
 /// Whether each choice at O is the target of a good move.
 fn choices_listed(good: &[Vec<u16>], choices: &[u16]) -> bool {
     good.iter().zip(choices).all(|(targets, choice)| *choice == NONE || targets.contains(choice))
@@ -339,7 +398,7 @@ fn show(job: usize, subject: &Subject, plate: &[u8], given: &Given, model: &dyn 
         text.chunks(length).map(|line| format!("  {}\n", line.escape_ascii())).collect::<String>()
     };
     println!(
-        "mismatch in {}\nchart\n{}plate\n{}choices {:?}, lengths {:?}, run {:?}, position {:?}\n\
+        "mismatch in {}\nchart\n{}plate\n{}choices {:?}, lengths {:?}, run {:?}, position {:?}, runs {:?}, reports {:?}\n\
          model   {model:?}\nlibrary {library:?}",
         JOBS[job],
         lines(subject.text, 12),
@@ -348,5 +407,7 @@ fn show(job: usize, subject: &Subject, plate: &[u8], given: &Given, model: &dyn 
         given.lengths,
         given.run,
         given.position,
+        given.runs,
+        given.reports,
     );
 }

@@ -1,11 +1,11 @@
 //! The test: the library, through its C interface, against the model. It ends with status 1 at the first mismatch, and
 //! also if a refusal, a condition, a use of blanks, a kind of sheet, a position of rest of some kind, a swap of texts of
-//! some kind or a way to ruin of some kind was hardly ever seen, or if a call wants more stack than the header says. A number
-//! as the argument divides the counts of inputs, for a quick look.
+//! some kind, a way to ruin of some kind or a house of some kind was hardly ever seen, or if a call wants more stack than the
+//! header says. A number as the argument divides the counts of inputs, for a quick look.
 
 use conformance::blanks::leave_out;
 use conformance::chart::{MOVES, POSITIONS};
-use conformance::parts::{controllers, damaged, drawn, examples, pairs, small, swapped, ways, Share};
+use conformance::parts::{controllers, damaged, drawn, examples, houses, pairs, small, swapped, ways, Share};
 use conformance::shapes::{all_good, blocks, lane_chain, rest_chain};
 use conformance::stacks::{stacks, MOST};
 use conformance::tally::Tally;
@@ -26,6 +26,7 @@ fn main() -> ExitCode {
     note(&mut total, "5  blank marks beside 0, all jobs", &shared(pairs::part, divisor));
     note(&mut total, "6  runs with changing texts", &shared(swapped::part, divisor));
     note(&mut total, "7  ways to ruin", &shared(ways::part, divisor));
+    note(&mut total, "8  houses of lanes", &shared(houses::part, divisor));
     println!();
     total.print();
     let mut wrong = total.missing(divisor);

@@ -1,7 +1,8 @@
 //! Part 0: the model itself gives what document 01 says of its example, of the charts at the edges, and of the refusals'
 //! examples, and what document 02 says of blanks (order 1), of good moves (order 2), of positions of rest (order 4), of
-//! reports with other texts (order 5) and of ways to ruin (order 6).
+//! reports with other texts (order 5), of ways to ruin (order 6) and of houses of lanes (order 7).
 
+mod houses;
 mod rests;
 mod swaps;
 mod ways;
@@ -166,6 +167,7 @@ pub fn part() -> Tally {
     longest(&mut trial);
     swaps::part(&mut trial);
     ways::part(&mut trial);
+    houses::part(&mut trial);
     trial.tally
 }
 

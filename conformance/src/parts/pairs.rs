@@ -5,8 +5,9 @@
 use super::setting::{Besides, Setting, KINDS};
 use super::Share;
 use crate::blanks::{filled_in, leave_out};
-use crate::capi::{self, Compared, Listed, Reading, Refusal, Step, Valued, Written};
+use crate::capi::{self, Compared, House, Listed, Reading, Refusal, Run, Step, Valued, Written};
 use crate::chart::{small_chart, small_charts, Chart};
+use crate::houses::Rows;
 use crate::model::Subject;
 use crate::random::Random;
 use crate::tally::{Tally, JOBS};
@@ -60,7 +61,9 @@ fn pair(trial: &mut Trial, random: &mut Random, setting: &Setting) {
     }
     let besides = setting.besides(random);
     let room = LINE * random.below(6) + random.below(2);
-    let (one, other) = (outcome(blank, setting, &besides, room), outcome(&filled, setting, &besides, room));
+    let (runs, reports) = setting.house(random);
+    let rows = Rows { runs: &runs, reports: &reports };
+    let (one, other) = (outcome(blank, setting, &besides, room, rows), outcome(&filled, setting, &besides, room, rows));
     assert!(one == other, "blank marks and 0: {}\n{one:?}\n{other:?}", blank.escape_ascii());
     trial.input(&Subject::new(blank));
     trial.tally.calls += 2 * JOBS.len() as u64;
@@ -83,20 +86,22 @@ struct Outcome {
     reported: Step,
     listed: Listed,
     ruined: Listed,
+    housed: House,
     valued_rows: [Lent<u16>; 3],
     plate: Lent<u8>,
     read_rows: [Lent<u16>; 3],
     worths: Lent<u16>,
     sheet: Lent<u8>,
     way: Lent<u8>,
+    runs: Lent<Run>,
 }
 
-/// `room` is how much is lent for a way to ruin.
-fn outcome(chart: &[u8], setting: &Setting, besides: &Besides, room: usize) -> Outcome {
+/// `room` is how much is lent for a way to ruin, and `rows` a house.
+fn outcome(chart: &[u8], setting: &Setting, besides: &Besides, room: usize, rows: Rows) -> Outcome {
     let (plate, choices) = (&setting.plate, &setting.choices);
     let (mut valued_rows, mut read_rows) = (besides.rows.map(Lent::new), besides.rows.map(Lent::new));
     let (mut written, mut worths) = (Lent::new(besides.buffer), Lent::new(besides.rows[0]));
-    let (mut sheet, mut way) = (Lent::new(besides.sheet), Lent::new(room));
+    let (mut sheet, mut way, mut runs) = (Lent::new(besides.sheet), Lent::new(room), Lent::of(rows.runs));
     let [values, others, steps] = &mut valued_rows;
     let [read_values, read_choices, read_steps] = &mut read_rows;
     Outcome {
@@ -110,11 +115,13 @@ fn outcome(chart: &[u8], setting: &Setting, besides: &Besides, room: usize) -> O
         reported: capi::report(besides.run, chart, plate, besides.to),
         listed: capi::good_moves(chart, sheet.lend()),
         ruined: capi::ruin(chart, choices, besides.start, way.lend()),
+        housed: capi::report_house(runs.lend(), rows.reports, chart, plate),
         valued_rows,
         plate: written,
         read_rows,
         worths,
         sheet,
         way,
+        runs,
     }
 }

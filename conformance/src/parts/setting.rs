@@ -7,7 +7,7 @@ use super::rest::hurt_chart_by_rest;
 use crate::blanks::leave_out_some;
 use crate::capi::{Run, NONE};
 use crate::chart::{Chart, Position, POSITIONS};
-use crate::model::{plate_text, Subject};
+use crate::model::{plate_text, Subject, LANES};
 use crate::random::Random;
 use crate::shapes::{drawn_or_rested, SHAPES};
 use crate::sheets;
@@ -179,6 +179,40 @@ impl Setting {
             return inside;
         }
         *random.pick(&[n, n + 1, usize::from(NONE), inside + (1 << 16), inside + (1 << 32), usize::MAX])
+    }
+
+    /// The two rows of a house, mostly of a few lanes. Lengths that are odd may be none, too many or unequal.
+    pub fn house(&self, random: &mut Random) -> (Vec<Run>, Vec<u16>) {
+        let most = *random.pick(&[1, 2, 3, 5, LANES]);
+        let lanes = random.between(1, most);
+        let silent = *random.pick(&[20, 50, 80, 100]);
+        let runs: Vec<Run> = (0..lanes).map(|_| self.run(random)).collect();
+        let reports = runs.iter().map(|&run| match random.chance(silent) {
+            true => NONE,
+            false => self.went(random, run).min(usize::from(NONE)) as u16,
+        });
+        let mut rows = (runs.clone(), reports.collect());
+        if self.odd_lengths {
+            self.resize_rows(random, &mut rows);
+        }
+        rows
+    }
+
+    fn resize_rows(&self, random: &mut Random, (runs, reports): &mut (Vec<Run>, Vec<u16>)) {
+        let (lanes, any) = (runs.len(), random.below(LANES + 8));
+        let lengths = match random.below(10) {
+            0 => (0, 0),
+            1 => (0, lanes),
+            2 => (lanes, 0),
+            3 => (lanes, lanes - 1),
+            4 => (lanes, lanes + 1),
+            5 => (lanes, any),
+            6 => (LANES + 1, LANES + 1),
+            7 => (LANES + 1 + any, LANES + 1 + any),
+            _ => (lanes, lanes),
+        };
+        runs.resize(lengths.0, runs[0]);
+        reports.resize(lengths.1, reports[0]);
     }
 
     fn run(&self, random: &mut Random) -> Run {

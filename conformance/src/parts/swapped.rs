@@ -79,7 +79,7 @@ fn drawn(trial: &mut Trial, random: &mut Random) {
 
 /// A chart twice with plates that are right, which come first; like charts and others, smaller and larger ones, with their
 /// plates; and then plates with other numbers, texts that do not belong together, and damaged ones.
-fn texts(random: &mut Random) -> Vec<(Vec<u8>, Vec<u8>)> {
+pub fn texts(random: &mut Random) -> Vec<(Vec<u8>, Vec<u8>)> {
     let own = good_chart(random);
     let n = own.len();
     let (smaller, larger) = (random.between(1, n.max(2) - 1), random.between(n + 1, n + 4).min(POSITIONS));
@@ -171,7 +171,7 @@ fn run(trial: &mut Trial, random: &mut Random, cards: &[Card], first: usize) {
 }
 
 /// A position to start from: mostly one whose value is a number above 0, if there is one.
-fn somewhere(random: &mut Random, card: &Card) -> usize {
+pub fn somewhere(random: &mut Random, card: &Card) -> usize {
     let between = |position: &usize| card.value(*position).is_some_and(|value| (1..NONE).contains(&value));
     let positions: Vec<usize> = (0..card.positions()).filter(between).collect();
     if positions.is_empty() || random.chance(20) {

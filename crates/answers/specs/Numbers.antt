@@ -30,7 +30,10 @@ use Rattle.answers.specs.declared.WrittenNumbers.{WrittenNumbers}
 use Rattle.answers.specs.declared.ReadingNumbers.{ReadingNumbers}
 use Rattle.answers.specs.declared.ComparedNumbers.{ComparedNumbers}
 use Rattle.answers.specs.declared.ListedNumbers.{ListedNumbers}
+use Rattle.house.specs.declared.Housed.{Housed}
+use Rattle.house.specs.declared.Housed.the-variants.{Moved, Refused as NotMoved}
 use Rattle.answers.specs.declared.Step.{Step}
+use Rattle.answers.specs.declared.HouseNumbers.{HouseNumbers}
 
 abbrev pub valuedNumbers : Valued → ValuedNumbers
 valuedNumbers (Rounds rounds) = record { refusal = noNumbers; rounds = rounds }
@@ -76,3 +79,7 @@ answerNumbers run (NotTaken x) = refusedStep x run
 
 abbrev pub reportedNumbers : Reported → Step
 reportedNumbers r = answerNumbers (r .run) (r .answer)
+
+abbrev pub housedNumbers : Housed → HouseNumbers
+housedNumbers (Moved moved) = record { refusal = noNumbers; lane = 0; moved = moved }
+housedNumbers (NotMoved lane x) = record { refusal = numbersOf x; lane = lane; moved = 0 }

@@ -1,9 +1,10 @@
 // The jobs' answers as C has them: numbers in structs that lie as C's do. Each is the result's own numbers, or the refusal's by the one
 // table and zeros.
 ghost use mathlib.Core.Path.{_≡_};
-ghost use Rattle.answers.specs.Numbers.{answerNumbers, checkedNumbers, comparedNumbers, listedNumbers, readingNumbers, refusedStep, reportedNumbers, startedNumbers, valuedNumbers, weighedNumbers, writtenNumbers};
+ghost use Rattle.answers.specs.Numbers.{answerNumbers, checkedNumbers, comparedNumbers, housedNumbers, listedNumbers, readingNumbers, refusedStep, reportedNumbers, startedNumbers, valuedNumbers, weighedNumbers, writtenNumbers};
 use checking::Checked;
 use comparing::Compared;
+use house::Housed;
 use listing::Listed;
 use reading::Reading;
 use refusal::Numbers;
@@ -57,6 +58,14 @@ pub struct Step {
     pub refusal: Numbers,
     pub run: Run,
     pub advice: Advice,
+}
+
+// A house's report: the refused lane, 0 where none is or the whole house is, and how many lanes moved.
+#[repr(C)]
+pub struct HouseNumbers {
+    pub refusal: Numbers,
+    pub lane: usize,
+    pub moved: usize,
 }
 
 pub fn valued_numbers(answer: Valued) -> ValuedNumbers
@@ -213,6 +222,23 @@ fn refused_step(refusal: Refusal, run: Run) -> Step
         advice: Advice {
             choice: 0,
             value: 0,
+        },
+    }
+}
+
+pub fn housed_numbers(answer: Housed) -> HouseNumbers
+    ensures { λ r. ⌜ r ≡ housedNumbers answer ⌝ }
+{
+    match answer {
+        Housed::Moved(moved) => HouseNumbers {
+            refusal: Numbers::none(),
+            lane: 0,
+            moved,
+        },
+        Housed::Refused(lane, r) => HouseNumbers {
+            refusal: r.numbers(),
+            lane,
+            moved: 0,
         },
     }
 }

@@ -4,7 +4,7 @@ use native.Mathlib.Omega.{arith}
 use mathlib.Core.Path.{_≡_, refl, sym, ap, _∙_}
 use mathlib.Core.Logic.{_⊎_, inl, inr}
 use mathlib.Core.List.{List}
-use Rattle.rows.specs.Rows.{RowsOf}
+use Rattle.rows.specs.Rows.{Ascending, RowsOf}
 use Rattle.rows.specs.Numbers.{numberOf, rowValue, Agree}
 use Rattle.game.specs.Value.{Value, fin, ever}
 use Rattle.game.specs.Arena.{Arena, size}
@@ -28,7 +28,7 @@ use Rattle.plate.specs.RowTrip.{row-column}
 use Rattle.plate.specs.declared.Form.{Form as PlateForm}
 use Rattle.plate.specs.declared.Form.the-variants.{Good, Bad}
 use Rattle.verdict.specs.Verdict.{verdictOf}
-use Rattle.verdict.specs.Sheet.{Ascending, Formed, sheet}
+use Rattle.verdict.specs.Sheet.{Formed, sheet}
 use Rattle.verdict.specs.RowsChecked.{RowsChecked}
 use Rattle.checking.specs.Checking.{FormedIs, PlateIs, answerOf, chartChecked, checked, plateChecked, plateVerdict}
 use Rattle.verdict.specs.SameFault.{verdict-same}

@@ -1,9 +1,8 @@
 // Checking (document 01, "The jobs"): a chart and anybody's plate, accepted or refused with the first fault. It has three doors: `check`
 // takes the two texts, `check_plate` a chart's rows and any plate, `check_formed` rows and a plate that is known to be of the form.
 ghost use mathlib.Core.Path.{_≡_};
-ghost use Rattle.rows.specs.Rows.{ChartRows};
+ghost use Rattle.rows.specs.Rows.{Ascending, ChartRows};
 ghost use Rattle.plate.specs.Formed.{formOf};
-ghost use Rattle.verdict.specs.Sheet.{Ascending};
 ghost use Rattle.checking.specs.Checking.{FormedIs, PlateIs, checked};
 use chart::Examination;
 use decode::load;

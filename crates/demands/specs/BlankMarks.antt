@@ -1,5 +1,5 @@
 -- "Charts that differ only in blank against 0 have the same plate" (document 02, order 1), of every job: two such charts, with everything
--- else that is lent the same, get the same answer and leave the same bytes and numbers.
+-- else that is lent the same, get the same answer and leave the same bytes, numbers and records.
 use Prim.Native.Nat.{ℕ}
 use mathlib.Core.Path.{_≡_}
 use mathlib.Core.List.{List}
@@ -22,6 +22,8 @@ use Rattle.comparing.specs.Compared.{ComparedIs}
 use Rattle.comparing.specs.declared.Compared.{Compared}
 use Rattle.run.specs.Running.{started, reported}
 use Rattle.run.specs.declared.Run.{Run}
+use Rattle.house.specs.Housing.{HouseIs}
+use Rattle.house.specs.declared.Housed.{Housed}
 use Rattle.response.specs.Response.{Responded}
 
 -- what the jobs' answers take from a chart's text: its examination, with the refusal and its line, and the arena that it means
@@ -47,6 +49,8 @@ pub record SameAnswers (text other : List ℕ) : Type 0 where
       → RuinedIs text choices position out out₁ r → RuinedIs other choices position out out₂ s → (r ≡ s) × (out₁ ≡ out₂)
   pub start : (plate : List ℕ) (position : ℕ) → started text plate position ≡ started other plate position
   pub report : (run : Run) (plate : List ℕ) (to : ℕ) → reported run text plate to ≡ reported run other plate to
+  pub house : {runs after₁ after₂ : List Run} {reports plate : List ℕ} {r s : Housed}
+      → HouseIs runs reports text plate after₁ r → HouseIs runs reports other plate after₂ s → (r ≡ s) × (after₁ ≡ after₂)
   -- what the collection's program prints
   pub program : {out out₁ out₂ : List ℕ} {r s : ℕ} → Responded text out out₁ r → Responded other out out₂ s → (r ≡ s) × (out₁ ≡ out₂)
 

@@ -1,10 +1,11 @@
 -- Blank marks make no difference: texts that differ only in them have the same examination and the same arena (chart/specs/BlankLaws.antt),
 -- and every job's answer is computed from these two. What a job leaves in a row is settled by its answer, so it is the same too.
 use Prim.Native.Nat.{ℕ, _*_}
-use mathlib.Core.Path.{_≡_, refl, sym, ap, ap₂, _∙_, subst}
+use mathlib.Core.Path.{_≡_, refl, sym, ap, ap₂, fun-ext, _∙_, subst}
 use mathlib.Core.Bool.{cond}
 use mathlib.Core.List.{List, _++_}
 use lib.ListN.{length, drop}
+use lib.Seq.{ext-getD}
 use lib.Dec.{leb}
 use Rattle.rows.specs.Filling.{filled-unique}
 use Rattle.game.specs.Arena.{Arena, size}
@@ -13,7 +14,7 @@ use Rattle.chart.specs.Examined.{examined}
 use Rattle.chart.specs.BlankLaws.{examined-same, arena-same}
 use Rattle.chart.specs.declared.Examination.{Examination}
 use Rattle.chart.specs.declared.Examination.the-variants.{Accepted as Taken, Refused as Turned}
-use Rattle.refusal.specs.declared.Refusal.the-variants.{Short}
+use Rattle.refusal.specs.declared.Refusal.the-variants.{Lanes, Short}
 use Rattle.valuing.specs.Valuing.{PlateRows, valuedBy, valued, ValuedIs}
 use Rattle.valuing.specs.declared.Valued.{Valued}
 use Rattle.valuing.specs.declared.Valued.the-variants.{Rounds, Refused as ValuingRefused}
@@ -26,6 +27,7 @@ use Rattle.reading.specs.declared.Reading.the-variants.{Rows, Refused as Readin
 use Rattle.plate.specs.Formed.{formOf}
 use Rattle.plate.specs.Read.{ColumnsRead}
 use Rattle.checking.specs.Checking.{plateChecked, chartChecked, checked}
+use Rattle.checking.specs.declared.Checked.{Checked}
 use Rattle.weighing.specs.Weighing.{WorthRow, weighedBy, weighed, WeighedIs}
 use Rattle.weighing.specs.declared.Weighed.{Weighed}
 use Rattle.weighing.specs.declared.Weighed.the-variants.{Done, Refused as WeighingRefused}
@@ -34,8 +36,12 @@ use Rattle.comparing.specs.declared.Compared.the-variants.{Refused as Comparing
 use Rattle.listing.specs.Listing.{goodSheet, listedBy, listed, ListedIs}
 use Rattle.listing.specs.declared.Listed.{Listed}
 use Rattle.listing.specs.declared.Listed.the-variants.{Lines, Refused as ListingRefused}
-use Rattle.run.specs.Running.{startedForm, startedBy, started, reportedForm, reportedBy, reported}
+use Rattle.run.specs.Running.{noRun, startedForm, startedBy, started, reportedForm, reportedBy, reported}
 use Rattle.run.specs.declared.Run.{Run}
+use Rattle.run.specs.declared.Reported.{Reported}
+use Rattle.house.specs.Housing.{HouseIs, checkedAnswer, drivable, houseAnswer, laneAfter, singly}
+use Rattle.house.specs.declared.Housed.{Housed}
+use Rattle.house.specs.declared.Housed.the-variants.{Refused as HouseRefused}
 use Rattle.response.specs.Response.{responseBy, response, Responded}
 use Rattle.rows.specs.Numbers.{rowValue}
 use Rattle.game.specs.Play.{Trail}
@@ -180,6 +186,24 @@ module _ (text other : List ℕ) (same : SameChart text other) where
       go (Turned r) = refl
       go (Taken chart) = ap (λ (x : Arena). reportedForm run x plate to (formOf (chart .positions) plate)) (same .arena)
 
+  house-same : {runs after₁ after₂ : List Run} {reports plate : List ℕ} {r s : Housed}
+      → HouseIs runs reports text plate after₁ r → HouseIs runs reports other plate after₂ s → (r ≡ s) × (after₁ ≡ after₂)
+  unfolding houseAnswer
+  house-same {runs} {after₁} {after₂} {reports} {plate} {r} {s} a b =
+      (answers, ext-getD noRun after₁ after₂ (a .count ∙ sym (b .count)) (λ i l. a .records i ∙ lane-same i ∙ sym (b .records i)))
+    where
+      singly-same : singly text plate ≡ singly other plate
+      singly-same = fun-ext (λ run. fun-ext (λ to. report-same run plate to))
+
+      answerBy : (Run → ℕ → Reported) → Checked → Housed
+      answerBy single c = cond (drivable (length runs) (length reports)) (checkedAnswer single runs reports (length runs) c) (HouseRefused 0 Lanes)
+
+      answers : r ≡ s
+      answers = a .answer ∙ ap₂ answerBy singly-same (checking-same plate) ∙ sym (b .answer)
+
+      lane-same : (i : ℕ) → laneAfter (singly text plate) runs reports r i ≡ laneAfter (singly other plate) runs reports s i
+      lane-same i = ap₂ (λ (single : Run → ℕ → Reported) (x : Housed). laneAfter single runs reports x i) singly-same answers
+
   program-same : {out out₁ out₂ : List ℕ} {r s : ℕ} → Responded text out out₁ r → Responded other out out₂ s → (r ≡ s) × (out₁ ≡ out₂)
   unfolding response
   program-same {out} {r = r} {s = s} a b =
@@ -202,6 +226,7 @@ blank-marks text other d =
         ruin = ruin-same text other same;
         start = start-same text other same;
         report = report-same text other same;
+        house = house-same text other same;
         program = program-same text other same;
       },
     )

@@ -1,12 +1,14 @@
 -- The mission's first demand, of the answers: "no misdrawn sheet is taken, and no refusal changes a lent buffer". With it stands document
 -- 01's sentence "the table is exact: a number is returned if its condition holds, and only then", in its order: "then 9; then 10 to 16
--- by number as far as the job has them", with 18 between 14 and 15 (document 02, order 5) and 19 after 13 (order 6). Each job has its rows of the table in one list. That
--- nothing makes a job stop, run on or read beyond its input is what every function of the library is proved for.
+-- by number as far as the job has them", with 18 between 14 and 15 (document 02, order 5), 19 after 13 (order 6) and 20 before the chart's own
+-- (order 7). Each job has its rows of the table in one list, a house one for the house and one for each lane. That nothing makes a job stop,
+-- run on or read beyond its input is what every function of the library is proved for.
 use Prim.Native.Nat.{ℕ, _+_, _*_, _≤_, _<_}
 use mathlib.Core.Path.{_≡_}
 use mathlib.Core.Logic.{_⊎_, _↔_}
 use mathlib.Core.List.{List, [], _∷_}
-use lib.ListN.{length}
+use lib.ListN.{length, getD}
+use Rattle.search.specs.Below.{countBelow}
 use Rattle.rows.specs.Numbers.{rowValue, numberOf}
 use Rattle.game.specs.Arena.{size, ownerAt}
 use Rattle.game.specs.Value.{ever}
@@ -15,7 +17,7 @@ use Rattle.game.specs.Worth.{WorthIs}
 use Rattle.way.specs.Way.{WayToRuin}
 use Rattle.refusal.specs.declared.Misdrawn.{Misdrawn}
 use Rattle.refusal.specs.declared.Refusal.{Refusal}
-use Rattle.refusal.specs.declared.Refusal.the-variants.{Chart as OfChart, Short, Plate, Choice, Position, Ever, Fault, Held, Move, Seen}
+use Rattle.refusal.specs.declared.Refusal.the-variants.{Lanes, Chart as OfChart, Short, Plate, Choice, Position, Ever, Fault, Held, Move, Seen}
 use Rattle.chart.specs.Meaning.{arenaOf}
 use Rattle.chart.specs.Refusals.{Applies, First}
 use Rattle.plate.specs.Form.{BadAt}
@@ -48,12 +50,16 @@ use Rattle.ruin.specs.Ruin.{RuinedIs}
 use Rattle.comparing.specs.Compared.{ComparedIs}
 use Rattle.comparing.specs.declared.Compared.{Compared}
 use Rattle.comparing.specs.declared.Compared.the-variants.{Refused as ComparingRefused}
-use Rattle.run.specs.Running.{started, reported}
+use Rattle.run.specs.Running.{noRun, started, reported}
 use Rattle.run.specs.declared.Run.{Run}
 use Rattle.run.specs.declared.Started.{Started}
 use Rattle.run.specs.declared.Started.the-variants.{Refused as StartRefused}
 use Rattle.run.specs.declared.Reported.{Reported}
 use Rattle.run.specs.declared.Answer.the-variants.{Refused as ReportRefused}
+use Rattle.house.specs.Housing.{HouseIs, reporting}
+use Rattle.house.specs.Answers.{NotDrivable, Reports}
+use Rattle.house.specs.declared.Housed.{Housed}
+use Rattle.house.specs.declared.Housed.the-variants.{Moved, Refused as HouseRefused}
 
 -- The table
 
@@ -113,6 +119,10 @@ ShorterThanWay text choices v lent =
 abbrev pub faulty : (text plate : List ℕ) → Row
 faulty text plate x = (v : ℕ) × (c : ℕ) × (x ≡ Fault v c) × FirstFaultIs (arenaOf text) (valueIn plate) (choiceIn plate) (stepIn plate) (headerIn plate) v c
 
+-- 13 of a report: "Its 13 covers the run's own position as well"
+abbrev pub OffChart : Run → (text : List ℕ) → ℕ → Type 0
+OffChart run text to = (count text ≤ run .position) ⊎ (count text ≤ to)
+
 -- 18: "the plate's value at the run's position isn't the held one", as numbers, 65,535 for "ever"
 abbrev pub NotHeld : Run → (plate : List ℕ) → Type 0
 NotHeld run plate = numberOf (valueIn plate (run .position)) ≡ run .value → ⊥
@@ -171,18 +181,31 @@ ruinRows text choices position out =
 abbrev pub startRows : (text plate : List ℕ) → ℕ → List Row
 startRows text plate position = misdrawn text ∷ malformed text plate ∷ only Position (count text ≤ position) ∷ faulty text plate ∷ []
 
--- "Its 13 covers the run's own position as well"; "A report shall check the plate (14), then compare" (document 02, order 5); 16: "a
--- disturbance with 99,999 or more seen"
-abbrev pub reportRows : Run → (text plate : List ℕ) → ℕ → List Row
-reportRows run text plate to =
-    misdrawn text
-    ∷ malformed text plate
-    ∷ only Position ((count text ≤ run .position) ⊎ (count text ≤ to))
-    ∷ faulty text plate
-    ∷ only Held (NotHeld run plate)
+-- what a report tests last; 16: "a disturbance with 99,999 or more seen"
+abbrev pub moveRows : Run → (text plate : List ℕ) → ℕ → List Row
+moveRows run text plate to =
+    only Held (NotHeld run plate)
     ∷ only Move (MoveIs run text plate to Neither)
     ∷ only Seen (MoveIs run text plate to Disturbance × (99999 ≤ run .seen))
     ∷ []
+
+-- "A report shall check the plate (14), then compare" (document 02, order 5)
+abbrev pub reportRows : Run → (text plate : List ℕ) → ℕ → List Row
+reportRows run text plate to =
+    misdrawn text ∷ malformed text plate ∷ only Position (OffChart run text to) ∷ faulty text plate ∷ moveRows run text plate to
+
+-- of a house: "20 .., tested before the chart", then "The plate is tested once (11, 14), even when no lane reports" (document 02, order 7)
+abbrev pub houseRows : List Run → (reports text plate : List ℕ) → List Row
+houseRows runs reports text plate =
+    only Lanes (NotDrivable (length runs) (length reports)) ∷ misdrawn text ∷ malformed text plate ∷ faulty text plate ∷ []
+
+-- "then", of a lane's own report, "13, 18, 15, 16"
+abbrev pub laneRows : Run → (text plate : List ℕ) → ℕ → List Row
+laneRows run text plate to = only Position (OffChart run text to) ∷ moveRows run text plate to
+
+-- those of each lane of a house
+abbrev pub rowsAt : List Run → (reports text plate : List ℕ) → ℕ → List Row
+rowsAt runs reports text plate lane = laneRows (getD runs lane noRun) text plate (getD reports lane 65535)
 
 -- The demand
 
@@ -192,6 +215,27 @@ pub record Exact {A : Type 0} (answer : A) (refused : Refusal → A) (rows : Lis
   pub exactly : (x : Refusal) → (answer ≡ refused x) ↔ RefusedBy rows x
   pub taken : ((x : Refusal) → answer ≡ refused x → ⊥) → Clear rows
   pub unchanged : (x : Refusal) → answer ≡ refused x → stays
+
+-- a lane's refusal x is answered: the house's rows are clear, and "of the reporting lanes" it is "the lowest refused"
+pub record LaneRefusedBy (runs : List Run) (reports text plate : List ℕ) (lane : ℕ) (x : Refusal) : Type 0 where
+  pub clear : Clear (houseRows runs reports text plate)
+  pub inside : lane < length runs
+  pub reports-here : Reports reports lane
+  pub refused : RefusedBy (rowsAt runs reports text plate lane) x
+  pub lower : (k : ℕ) → k < lane → Reports reports k → Clear (rowsAt runs reports text plate k)
+
+-- no condition holds, of the house or of a lane that reports
+pub record AllClear (runs : List Run) (reports text plate : List ℕ) : Type 0 where
+  pub clear : Clear (houseRows runs reports text plate)
+  pub lanes : (lane : ℕ) → lane < length runs → Reports reports lane → Clear (rowsAt runs reports text plate lane)
+
+-- the same of a house: its own refusals are answered at lane 0, and a count, "the count of lanes moved", is answered just where all is clear;
+-- after a refusal "no record changes"
+pub record HouseExact (runs after : List Run) (reports text plate : List ℕ) (answer : Housed) : Type 0 where
+  pub exactly : (lane : ℕ) (x : Refusal) → (answer ≡ HouseRefused lane x)
+      ↔ (((lane ≡ 0) × RefusedBy (houseRows runs reports text plate) x) ⊎ LaneRefusedBy runs reports text plate lane x)
+  pub taken : (moved : ℕ) → (answer ≡ Moved moved) ↔ (AllClear runs reports text plate × (moved ≡ countBelow (reporting reports) (length runs)))
+  pub unchanged : (lane : ℕ) (x : Refusal) → answer ≡ HouseRefused lane x → after ≡ runs
 
 -- of every job, by what it ensures; Checking, Comparing and a start are lent nothing that they could change
 pub record Demand1 : Type 0 where
@@ -211,5 +255,7 @@ pub record Demand1 : Type 0 where
   -- "the run comes back unchanged"
   pub report : {run : Run} {text plate : List ℕ} {to : ℕ} {r : Reported} → r ≡ reported run text plate to
       → Exact (r .answer) ReportRefused (reportRows run text plate to) (r .run ≡ run)
-  -- "no misdrawn sheet is taken": where any of 1 to 9 applies to a chart, one of them is the first, so the first row above refuses it
+  pub house : {runs after : List Run} {reports text plate : List ℕ} {r : Housed} → HouseIs runs reports text plate after r
+      → HouseExact runs after reports text plate r
+  -- "no misdrawn sheet is taken": where any of 1 to 9 and 17 applies to a chart, one of them is the first, so the first row above refuses it
   pub misdrawn-is-refused : (text : List ℕ) (s : Misdrawn) → Applies text s → (r : Misdrawn) × First text r

@@ -1,21 +1,21 @@
 -- The first demand's proof. A job's tests stand in the order of its rows: each test tells whether its row's condition holds, where it does
 -- the answer is the row's refusal, and where it does not the rows after it decide (RowLaws). So each job its rows in turn.
-use Prim.Native.Nat.{ℕ, _+_, _*_, _≤_}
+use Prim.Native.Nat.{ℕ, _+_, _*_}
 use native.Mathlib.Omega.{arith}
-use mathlib.Core.Path.{_≡_, refl, sym, ap, subst, _∙_}
-use mathlib.Core.Logic.{_⊎_, inl, inr, ⊎-elim, _↔_}
+use mathlib.Core.Path.{_≡_, refl, sym, ap, _∙_}
+use mathlib.Core.Logic.{_⊎_, ⊎-elim}
 use mathlib.Core.Bool.{_&&_}
-use mathlib.Core.List.{List, [], _∷_}
+use mathlib.Core.List.{List}
 use lib.ListN.{length}
 use lib.Dec.{leb, ltb, eqb}
-use borrow.Author.Tests.{leb-true, leb-false, ltb-true, ltb-false, eqb-true, eqb-false}
-use Rattle.rows.specs.Numbers.{rowValue, numberOf}
+use borrow.Author.Tests.{leb-true, leb-false, ltb-true, ltb-false}
+use Rattle.rows.specs.Numbers.{rowValue}
 use Rattle.rows.specs.declared.Chart.{Chart}
 use Rattle.search.specs.First.{first-or-none, first-none, first-at}
 use Rattle.game.specs.Arena.{Arena, size}
 use Rattle.refusal.specs.declared.Misdrawn.{Misdrawn}
 use Rattle.refusal.specs.declared.Refusal.{Refusal}
-use Rattle.refusal.specs.declared.Refusal.the-variants.{Chart as OfChart, Plate, Position, Fault, Held, Move, Seen}
+use Rattle.refusal.specs.declared.Refusal.the-variants.{Chart as OfChart, Plate, Position, Fault}
 use Rattle.chart.specs.Meaning.{arenaOf}
 use Rattle.chart.specs.Examined.{examined}
 use Rattle.chart.specs.Exact.{refused-exactly, accepted-exactly}
@@ -24,11 +24,8 @@ use Rattle.chart.specs.Refusals.{Applies, First}
 use Rattle.chart.specs.declared.Examination.{Examination}
 use Rattle.chart.specs.declared.Examination.the-variants.{Accepted as Taken, Refused as Turned}
 use Rattle.plate.specs.Exact.{form-exact, bad-line-exact}
-use Rattle.plate.specs.Read.{valueIn, choiceIn}
 use Rattle.verdict.specs.declared.Verdict.the-variants.{Sound, Fault as FaultAt}
-use Rattle.checking.specs.Checking.{checked}
-use Rattle.checking.specs.AnswersExact.{answer-exactly, verdict-means}
-use Rattle.checking.specs.declared.Checked.the-variants.{Accepted, Refused as CheckingRefused}
+use Rattle.checking.specs.AnswersExact.{verdict-means}
 use Rattle.valuing.specs.Valuing.{valued, valuedBy}
 use Rattle.valuing.specs.declared.Valued.the-variants.{Refused as ValuingRefused}
 use Rattle.writing.specs.Writing.{written, writtenBy}
@@ -44,22 +41,15 @@ use Rattle.listing.specs.declared.Listed.the-variants.{Refused as ListingRefuse
 use Rattle.comparing.specs.Comparing.{valueNumber, worthNumber, firstDifference, compared}
 use Rattle.comparing.specs.Order.{first-the-chart, then-ten, then-eleven, then-twelve, then-fourteen, then-the-rows}
 use Rattle.comparing.specs.declared.Compared.the-variants.{Agree, Differ, Refused as ComparingRefused}
-use Rattle.moves.specs.Moves.{moveKind}
-use Rattle.moves.specs.MoveLaws.{kind-exactly}
-use Rattle.moves.specs.declared.Kind.{Kind}
-use Rattle.moves.specs.declared.Kind.the-variants.{Meant, Disturbance, Neither}
-use Rattle.run.specs.Running.{adviceAt, begunAt, moved, started, reported}
-use Rattle.run.specs.Answers.{Stands, Moves, ReportIs, ReportRefused as ReportRefusedIs}
-use Rattle.run.specs.AnswersExact.{start-exactly, report-exactly}
-use Rattle.run.specs.declared.Run.{Run}
-use Rattle.run.specs.declared.Advice.{Advice}
+use Rattle.run.specs.Running.{begunAt, started}
+use Rattle.run.specs.AnswersExact.{start-exactly}
 use Rattle.run.specs.declared.Started.the-variants.{Refused as StartRefused}
 use Rattle.run.specs.declared.Reported.{Reported}
-use Rattle.run.specs.declared.Answer.{Answer}
-use Rattle.run.specs.declared.Answer.the-variants.{Taken as Went, Refused as ReportRefused}
-use Rattle.demands.specs.RowLaws.{Settled, Tests, short-test, three-short, both-test, inside-test, same-test, both-true, row-holds, row-fails, no-rows, test-row, chart-row, form-row, fault-row, with-lent, choice-test}
+use Rattle.demands.specs.RowLaws.{Settled, Tests, short-test, three-short, both-test, inside-test, no-rows, test-row, chart-row, form-row, fault-row, with-lent, choice-test}
 use Rattle.demands.specs.RuinRows.{ruin-settled}
-use Rattle.demands.specs.Demand1.{only, MoveIs, valuingRows, writingRows, readingRows, checkingRows, weighingRows, comparingRows, ShorterThanSheet, listingRows, startRows, reportRows, Demand1}
+use Rattle.demands.specs.ReportRows.{checking-settled, report-settled, report-unmoved}
+use Rattle.demands.specs.HouseRows.{house-exact}
+use Rattle.demands.specs.Demand1.{valuingRows, writingRows, readingRows, weighingRows, comparingRows, ShorterThanSheet, listingRows, startRows, Demand1}
 
 -- The jobs
 
@@ -94,19 +84,6 @@ reading-settled text plate values choices steps =
     (λ b.
     form-row (λ x y e. cc) text plate chart e (λ line f. rw (e, b, f))
     (λ f. no-rows (λ x y e. cc) (λ x q. let z : _≡_ {A = ℕ} 0 1 = cc in omega arith))))
-
-checking-settled : (text plate : List ℕ) → Settled (checked text plate) CheckingRefused (checkingRows text plate)
-checking-settled text plate =
-    let answer = answer-exactly text plate in
-    chart-row (λ x y e. cc) text (λ r e. answer (CheckingRefused (OfChart r)) .1 e)
-    (λ chart e.
-    form-row (λ x y e. cc) text plate chart e (λ line f. answer (CheckingRefused (Plate line)) .1 (record { chart = chart; taken = e; bad = bad-line-exact (chart .positions) line plate .0 f }))
-    (λ f.
-    fault-row (λ x y e. cc) text plate
-    (λ v c g. answer (CheckingRefused (Fault v c)) .1 (verdict-means text plate chart e (form-exact (chart .positions) plate .0 f) (FaultAt v c) g))
-    (λ g.
-    let sound = answer Accepted .1 (verdict-means text plate chart e (form-exact (chart .positions) plate .0 f) Sound g) in
-    no-rows (λ x y e. cc) (λ x q. let z : _≡_ {A = ℕ} 0 1 = cc in omega arith))))
 
 weighing-settled : (text choices worths : List ℕ) → Settled (weighed text choices (length worths)) WeighingRefused (weighingRows text choices worths)
 unfolding weighed weighedBy
@@ -181,70 +158,6 @@ start-settled text plate position =
     let begun = answer (begunAt plate position) .1 (verdict-means text plate chart e form Sound g, ltb-true position n b, refl, refl) in
     no-rows (λ x y e. cc) (λ x q. let z : _≡_ {A = ℕ} 0 1 = cc in omega arith)))))
 
-module _ (run : Run) (text plate : List ℕ) (to : ℕ) where
-  abbrev answer : Answer
-  answer = reported run text plate to .answer
-
-  -- the answer, from the condition of a report's answers
-  refused-by : (x : Refusal) → ReportRefusedIs run text plate to x → answer ≡ ReportRefused x
-  refused-by x h = ap (λ (r : Reported). r .answer) (report-exactly run text plate to run (ReportRefused x) .1 (h, refl))
-
-  taken-by : (after : Run) (advice : Advice) → ReportIs run text plate to after (Went advice) → (x : Refusal) → answer ≡ ReportRefused x → ⊥
-  taken-by after advice h x q =
-      let e : answer ≡ Went advice = ap (λ (r : Reported). r .answer) (report-exactly run text plate to after (Went advice) .1 h) in
-      let z : _≡_ {A = ℕ} 0 1 = cc in
-      omega arith
-
-  abbrev kind : Kind
-  kind = moveKind (arenaOf text) (choiceIn plate (run .position)) (run .position) to
-
-  says : (k : Kind) → (kind ≡ k) ↔ MoveIs run text plate to k
-  says k = kind-exactly (arenaOf text) (choiceIn plate (run .position)) (run .position) to k
-
-  -- 15 and 16, of a move on an accepted plate with the held value
-  move-rows : ((k : Kind) → kind ≡ k → Moves run text plate to k)
-      → Settled answer ReportRefused (only Move (MoveIs run text plate to Neither) ∷ only Seen (MoveIs run text plate to Disturbance × (99999 ≤ run .seen)) ∷ [])
-  move-rows moves = go kind refl
-    where
-      apart : {j k : Kind} → kind ≡ j → kind ≡ k → (j ≡ k → ⊥) → ⊥
-      apart p q differ = differ (sym p ∙ q)
-
-      go : (k : Kind) → kind ≡ k → Settled answer ReportRefused (only Move (MoveIs run text plate to Neither) ∷ only Seen (MoveIs run text plate to Disturbance × (99999 ≤ run .seen)) ∷ [])
-      go Neither e = row-holds (λ x y e. cc) (λ y h. refused-by Move (moves Neither e) ∙ ap ReportRefused (sym (h .0))) Move (refl, says Neither .0 e)
-      go Disturbance e =
-          row-fails (λ x y e. cc) (λ y h. apart e (says Neither .1 (h .1)) (λ q. let z : _≡_ {A = ℕ} 0 1 = cc in omega arith))
-          (test-row (λ x y e. cc) (ltb (run .seen) 99999) (λ b h. omega (arith, ltb-true (run .seen) 99999 b, h .1), λ b. (says Disturbance .0 e, ltb-false (run .seen) 99999 b))
-          (λ b. refused-by Seen (moves Disturbance e, ltb-false (run .seen) 99999 b))
-          (λ b. no-rows (λ x y e. cc) (taken-by (moved run to (run .seen + 1) (numberOf (valueIn plate to))) (adviceAt plate to) (inr (moves Disturbance e, ltb-true (run .seen) 99999 b, refl), refl))))
-      go Meant e =
-          row-fails (λ x y e. cc) (λ y h. apart e (says Neither .1 (h .1)) (λ q. let z : _≡_ {A = ℕ} 0 1 = cc in omega arith))
-          (row-fails (λ x y e. cc) (λ y h. apart e (says Disturbance .1 (h .1 .0)) (λ q. let z : _≡_ {A = ℕ} 0 1 = cc in omega arith))
-          (no-rows (λ x y e. cc) (taken-by (moved run to (run .seen) (numberOf (valueIn plate to))) (adviceAt plate to) (inl (moves Meant e, refl), refl))))
-
-  report-settled : Settled answer ReportRefused (reportRows run text plate to)
-  report-settled =
-      let n = size (arenaOf text) in
-      chart-row (λ x y e. cc) text (λ r e. refused-by (OfChart r) e)
-      (λ chart e.
-      form-row (λ x y e. cc) text plate chart e (λ line f. refused-by (Plate line) (record { chart = chart; taken = e; bad = bad-line-exact (chart .positions) line plate .0 f }))
-      (λ f.
-      let form = form-exact (chart .positions) plate .0 f in
-      let test = both-test (ltb (run .position) n) (ltb to n) (inside-test (run .position) n) (inside-test to n) in
-      test-row (λ x y e. cc) (ltb (run .position) n && ltb to n) test (λ b. refused-by Position (record { chart = chart; taken = e; form = form }, test .1 b))
-      (λ b.
-      let here = ltb-true (run .position) n (both-true (ltb (run .position) n) (ltb to n) b .0) in
-      let there = ltb-true to n (both-true (ltb (run .position) n) (ltb to n) b .1) in
-      fault-row (λ x y e. cc) text plate (λ v c g. refused-by (Fault v c) (verdict-means text plate chart e form (FaultAt v c) g, here, there))
-      (λ g.
-      let stands : Stands run text plate to = record { accepted = verdict-means text plate chart e form Sound g; own = here; inside = there } in
-      let number = numberOf (valueIn plate (run .position)) in
-      test-row (λ x y e. cc) (eqb number (run .value)) (same-test number (run .value)) (λ c. refused-by Held (stands, eqb-false number (run .value) c))
-      (λ c. move-rows (λ k h. record { stands = stands; holds = eqb-true number (run .value) c; kind = h }))))))
-
-  -- "the run comes back unchanged"
-  report-unmoved : (x : Refusal) → answer ≡ ReportRefused x → reported run text plate to .run ≡ run
-  report-unmoved x q = subst (ReportIs run text plate to (reported run text plate to .run)) q (report-exactly run text plate to (reported run text plate to .run) answer .0 refl) .1
-
 -- The demand
 
 pub demand-1 : Demand1
@@ -262,6 +175,7 @@ demand-1 =
       report = λ {run} {text} {plate} {to} e.
           with-lent (ap (λ (r : Reported). r .answer) e) (report-settled run text plate to)
           (λ x q. ap (λ (r : Reported). r .run) e ∙ report-unmoved run text plate to x (sym (ap (λ (r : Reported). r .answer) e) ∙ q));
+      house = λ {runs} {after} {reports} {text} {plate} is. house-exact runs reports text plate is;
       misdrawn-is-refused = misdrawn-first;
     }
   where

@@ -12,6 +12,8 @@ pub mod EdgeCharts
 pub mod SanctionedLaws
 pub mod RowLaws
 pub mod RuinRows
+pub mod ReportRows
+pub mod HouseRows
 pub mod Demand1Holds
 pub mod ReadBack
 pub mod Printed

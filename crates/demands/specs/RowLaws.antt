@@ -147,6 +147,13 @@ module _ {A : Type 0} {answer : A} {refused : Refusal → A} (injective : (x y :
           apart : {v c : ℕ} → plateVerdict (arenaOf text) plate ≡ FaultAt v c → plateVerdict (arenaOf text) plate ≡ Sound → ⊥
           apart p q = let z : _≡_ {A = ℕ} 0 1 = cc in omega arith
 
+-- where no condition holds, nothing is refused
+pub clear-refuses-none : (rows : List Row) → Clear rows → (x : Refusal) → RefusedBy rows x → ⊥
+unfolding RefusedBy Clear
+clear-refuses-none [] clear x h = h
+clear-refuses-none (row ∷ rest) (none, clear) x (inl h) = none x h
+clear-refuses-none (row ∷ rest) (none, clear) x (inr (before, h)) = clear-refuses-none rest clear x h
+
 -- what is lent besides
 pub with-lent : {A : Type 0} {answer r : A} {refused : Refusal → A} {rows : List Row} {stays : Type 0} → r ≡ answer → Settled answer refused rows
     → ((x : Refusal) → r ≡ refused x → stays) → Exact r refused rows stays

@@ -16,12 +16,16 @@ use Rattle.listing.specs.Listing.{ListedIs}
 use Rattle.listing.specs.declared.Listed.{Listed}
 use Rattle.ruin.specs.Ruin.{RuinedIs}
 use Rattle.refusal.specs.declared.Numbers.{Numbers}
-use Rattle.answers.specs.Numbers.{comparedNumbers, listedNumbers, readingNumbers, valuedNumbers, weighedNumbers, writtenNumbers}
+use Rattle.house.specs.Housing.{HouseIs}
+use Rattle.house.specs.declared.Housed.{Housed}
+use Rattle.run.specs.declared.Run.{Run}
+use Rattle.answers.specs.Numbers.{comparedNumbers, housedNumbers, listedNumbers, readingNumbers, valuedNumbers, weighedNumbers, writtenNumbers}
 use Rattle.answers.specs.declared.ValuedNumbers.{ValuedNumbers}
 use Rattle.answers.specs.declared.WrittenNumbers.{WrittenNumbers}
 use Rattle.answers.specs.declared.ReadingNumbers.{ReadingNumbers}
 use Rattle.answers.specs.declared.ComparedNumbers.{ComparedNumbers}
 use Rattle.answers.specs.declared.ListedNumbers.{ListedNumbers}
+use Rattle.answers.specs.declared.HouseNumbers.{HouseNumbers}
 
 pub record ValuedAs (text values values′ choices choices′ steps steps′ : List ℕ) (r : ValuedNumbers) : Type 0 where
   pub answer : Valued
@@ -57,3 +61,8 @@ pub record RuinedAs (text choices : List ℕ) (position : ℕ) (out out′ : Lis
   pub answer : Listed
   pub job : RuinedIs text choices position out out′ answer
   pub numbers : r ≡ listedNumbers answer
+
+pub record HousedAs (runs : List Run) (reports text plate : List ℕ) (after : List Run) (r : HouseNumbers) : Type 0 where
+  pub answer : Housed
+  pub job : HouseIs runs reports text plate after answer
+  pub numbers : r ≡ housedNumbers answer

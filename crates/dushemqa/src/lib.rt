@@ -4,8 +4,9 @@ ghost use mathlib.Core.Path.{_≡_};
 ghost use Rattle.checking.specs.Checking.{checked};
 ghost use Rattle.run.specs.Running.{reported, started};
 ghost use Rattle.answers.specs.Numbers.{checkedNumbers, reportedNumbers, startedNumbers};
-ghost use Rattle.dushemqa.specs.Exports.{ComparedAs, ListedAs, ReadAs, RuinedAs, ValuedAs, WeighedAs, WrittenAs};
+ghost use Rattle.dushemqa.specs.Exports.{ComparedAs, HousedAs, ListedAs, ReadAs, RuinedAs, ValuedAs, WeighedAs, WrittenAs};
 use answers::ComparedNumbers;
+use answers::HouseNumbers;
 use answers::ListedNumbers;
 use answers::ReadingNumbers;
 use answers::Step;
@@ -13,6 +14,7 @@ use answers::ValuedNumbers;
 use answers::WrittenNumbers;
 use answers::checked_numbers;
 use answers::compared_numbers;
+use answers::housed_numbers;
 use answers::listed_numbers;
 use answers::reading_numbers;
 use answers::reported_numbers;
@@ -22,6 +24,7 @@ use answers::weighed_numbers;
 use answers::written_numbers;
 use checking::check;
 use comparing::compare;
+use house::report_house;
 use listing::list_good_moves;
 use reading::read_plate;
 use refusal::Numbers;
@@ -125,4 +128,17 @@ pub extern "C" fn dushemqa_report(run: Run, text: &[u8], plate: &[u8], to: usize
     ensures { λ r. ⌜ r ≡ reportedNumbers (reported run (now (text .entry)) (now (plate .entry)) to) ⌝ }
 {
     reported_numbers(run.report(text, plate, to))
+}
+
+// A house's report.
+#[no_mangle]
+pub extern "C" fn dushemqa_report_house(
+    runs: &mut [Run],
+    reports: &[u16],
+    text: &[u8],
+    plate: &[u8],
+) -> HouseNumbers
+    ensures { λ r. ⌜ HousedAs (now (runs .entry)) (now (reports .entry)) (now (text .entry)) (now (plate .entry)) (now (runs .exit)) r ⌝ }
+{
+    housed_numbers(report_house(runs, reports, text, plate))
 }

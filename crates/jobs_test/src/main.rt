@@ -1,29 +1,38 @@
 // Asks the jobs about charts, plates, steps and rows of choices, good and bad, and writes what each answers and what the case is.
 // `stdin` has the cases, `stdout` what the documents say of each. The first letter of a case's name is its job: `E` examines a chart, `C`
-// is Checking, `R` Reading, `W` the program's answer, `S` a step of a run, `D` Comparing, `G` Listing and `P` the way to ruin.
+// is Checking, `R` Reading, `W` the program's answer, `S` a step of a run, `D` Comparing, `G` Listing, `P` the way to ruin and `H` a step of a
+// house.
 ghost use Rattle.cases.specs.CaseLaws.{Ordered};
 ghost use lib.ListN.{length};
+use crate::houses::Lanes;
 use cases::Case;
 use cases::case_at;
 use libc::STDIN_FILENO;
 use run::Run;
 
 mod charts;
+mod houses;
 mod plates;
 mod runs;
 mod sheets;
 mod ways;
 mod writer;
 
-// Where the next case begins, and the run that it goes on with.
+// Where the next case begins, and what it goes on with.
 struct Next {
     at: usize,
+    held: Held,
+}
+
+// What the cases leave to each other: a run, and the lanes of a house.
+struct Held {
     run: Run,
+    lanes: Lanes,
 }
 
 // The input has more bytes than io's large buffer.
 fn main() {
-    let mut input = [0u8; 196608];
+    let mut input = [0u8; 262144];
     let got = io::read_full(STDIN_FILENO, &mut input);
     cases(&input[..got]);
     charts::longest();
@@ -36,18 +45,21 @@ fn main() {
 // The cases of the input, of which there are fewer than 1,000.
 fn cases(input: &[u8]) {
     let mut at: usize = 0;
-    let mut run = Run::none();
+    let mut held = Held {
+        run: Run::none(),
+        lanes: houses::empty(),
+    };
     let mut k: usize = 0;
     while k < 1000 {
-        let next = show_case(input, case_at(input, at), run);
+        let next = show_case(input, case_at(input, at), held);
         at = next.at;
-        run = next.run;
+        held = next.held;
         k += 1;
     }
 }
 
 // Shows a case. Past the input's end it shows nothing.
-fn show_case(input: &[u8], c: Case, run: Run) -> Next
+fn show_case(input: &[u8], c: Case, held: Held) -> Next
     requires { ⌜ Ordered (length (now input)) c ⌝ }
 {
     let name = c.name;
@@ -58,7 +70,7 @@ fn show_case(input: &[u8], c: Case, run: Run) -> Next
     if input.len() <= end {
         return Next {
             at: input.len(),
-            run,
+            held,
         };
     }
     let after = show(
@@ -66,37 +78,43 @@ fn show_case(input: &[u8], c: Case, run: Run) -> Next
         &input[first..second],
         &input[second..third],
         &input[third..end],
-        run,
+        held,
     );
     Next {
         at: end + 1,
-        run: after,
+        held: after,
     }
 }
 
-// The answer and the name; a plate or a sheet stands under its name. Answers the run after the case.
-fn show(name: &[u8], chart: &[u8], plate: &[u8], words: &[u8], run: Run) -> Run {
+// The answer and the name; a plate, a sheet or lanes stand under its name. Answers what is held after the case.
+fn show(name: &[u8], chart: &[u8], plate: &[u8], words: &[u8], held: Held) -> Held {
     if name.len() == 0 {
-        return run;
+        return held;
     }
     let job = name[0];
+    let run = held.run;
+    let lanes = held.lanes;
     if job == b'W' {
         writer::name(&name[1..]);
         charts::respond(chart);
-        return run;
+        return held;
     }
     if job == b'G' {
         sheets::list(chart, words, &name[1..]);
-        return run;
+        return held;
     }
     if job == b'P' {
         ways::list(chart, plate, words, &name[1..]);
-        return run;
+        return held;
     }
-    let after = answer(job, chart, plate, words, run);
+    if job == b'H' {
+        let lanes = houses::show(chart, plate, words, &name[1..], run, lanes);
+        return Held { run, lanes };
+    }
+    let run = answer(job, chart, plate, words, run);
     io::write_all(1, b"  ");
     writer::name(&name[1..]);
-    after
+    Held { run, lanes }
 }
 
 fn answer(job: u8, chart: &[u8], plate: &[u8], words: &[u8], run: Run) -> Run {

@@ -8,6 +8,9 @@ use reading::Reading;
 use reading::read_plate;
 use writing::Written;
 
+// Room for a row of choices, or of a house's reports.
+pub type Row = [u16; 66];
+
 // `A`, or the refusal.
 pub fn check(text: &[u8], plate: &[u8]) {
     match checking::check(text, plate) {
@@ -76,9 +79,9 @@ pub fn rows() {
     io::write_all(1, b"  a row short\n");
 }
 
-// The answer for a chart, a plate and a row of up to sixteen choices.
+// The answer for a chart, a plate and a row of choices.
 pub fn compare(text: &[u8], plate: &[u8], fields: &[u8]) {
-    let mut row = [0u16; 16];
+    let mut row = [0u16; 66];
     fill_row(fields, &mut row);
     let choices = part(&row, fields.len() / 5);
     if plate.len() == 1 {
@@ -88,17 +91,17 @@ pub fn compare(text: &[u8], plate: &[u8], fields: &[u8]) {
     }
 }
 
-// The choices of a row, a field for each, and 0 past its end.
-pub fn fill_row(fields: &[u8], row: &mut [u16; 16]) {
+// The numbers of a row, a field for each, and 0 past its end.
+pub fn fill_row(fields: &[u8], row: &mut Row) {
     let mut v: usize = 0;
-    while v < 16 {
-        row[v] = choice(fields, v * 5);
+    while v < 66 {
+        row[v] = entry(fields, v * 5);
         v += 1;
     }
 }
 
-// The first choices of a row.
-pub fn part(row: &[u16; 16], count: usize) -> &[u16] {
+// The first numbers of a row.
+pub fn part(row: &Row, count: usize) -> &[u16] {
     front(row, count)
 }
 
@@ -110,9 +113,9 @@ fn front(row: &[u16], count: usize) -> &[u16] {
     }
 }
 
-// The choice at `at`, 0 past the row's end.
-fn choice(fields: &[u8], at: usize) -> u16
-    requires { ⌜ at ≤ 75 ⌝ }
+// The number at `at`, 0 past the row's end.
+fn entry(fields: &[u8], at: usize) -> u16
+    requires { ⌜ at ≤ 325 ⌝ }
 {
     if fields.len() < at + 5 {
         return 0;

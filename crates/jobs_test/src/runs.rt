@@ -87,7 +87,7 @@ fn taken(run: Run, advice: Advice) -> Run {
     run
 }
 
-fn refused(refusal: Refusal) {
+pub fn refused(refusal: Refusal) {
     let r = refusal.numbers();
     io::write_all(1, b"R");
     show(r.number as u64);
@@ -98,14 +98,14 @@ fn refused(refusal: Refusal) {
     }
 }
 
-fn show_run(run: Run) {
+pub fn show_run(run: Run) {
     show(run.position() as u64);
     show(run.seen() as u64);
     show(run.initial() as u64);
     show(run.value() as u64);
 }
 
-fn show(x: u64) {
+pub fn show(x: u64) {
     io::write_all(1, b" ");
     io::print_decimal(1, x);
 }

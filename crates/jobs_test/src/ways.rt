@@ -12,7 +12,7 @@ use ruin::list_way_to_ruin;
 // `A` with the count of lines, or the refusal with its four numbers; under the name the whole lent buffer. The case's second text has the
 // choices, a field for each, and its third the position and the buffer's length. `max` is the largest position.
 pub fn list(text: &[u8], fields: &[u8], words: &[u8], name: &[u8]) {
-    let mut row = [0u16; 16];
+    let mut row = [0u16; 66];
     let mut buffer = [b'#'; 256];
     if words.len() < 10 {
         return;

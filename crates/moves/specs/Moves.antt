@@ -1,5 +1,5 @@
 -- What a move from one position to another is (document 01, "The run").
-use Prim.Native.Nat.{ℕ}
+use Prim.Native.Nat.{ℕ, _≤_, _<_}
 use mathlib.Core.Path.{_≡_}
 use mathlib.Core.Bool.{Bool, cond, _&&_}
 use mathlib.Core.List.{List}
@@ -43,12 +43,15 @@ KindSays nobody a choice v w Meant = ⊥
 KindSays nobody a choice v w Disturbance = DisturbedTo a v w
 KindSays nobody a choice v w Neither = DisturbedTo a v w → ⊥
 
--- In rows: the i-th move is of the kind sought and leads to w, and it leaves v
+-- In rows: the i-th move is of the kind sought and leads to w
 unfoldable pub leadsTo : (meant : Bool) (w : ℕ) (costs tos : List ℕ) → ℕ → Bool
 leadsTo meant w costs tos i = ofKind meant (getD costs i 0) && eqb (getD tos i 0) w
 
-unfoldable pub leadsFrom : (meant : Bool) (v w : ℕ) (costs froms tos : List ℕ) → ℕ → Bool
-leadsFrom meant v w costs froms tos i = eqb (getD froms i 0) v && leadsTo meant w costs tos i
+-- the first move that leaves v or a later position
+pub record FirstFrom (m : ℕ) (froms : List ℕ) (v first : ℕ) : Type 0 where
+  pub within : first ≤ m
+  pub before : (i : ℕ) → i < first → getD froms i 0 < v
+  pub after : (i : ℕ) → first ≤ i → i < m → v ≤ getD froms i 0
 
 -- the answer to a chart's rows and a choice as a number, for every arena that the rows hold
 pub record KindIs (n m : ℕ) (owners costs froms tos : List ℕ) (number v w : ℕ) (r : Kind) : Type 0 where

@@ -89,7 +89,7 @@ pub fn expect(ok: bool, name: &[u8], text: &[u8], tally: &mut Tally) {
     }
 }
 
-fn wide(x: u16) -> usize {
+pub fn wide(x: u16) -> usize {
     x as usize
 }
 
@@ -258,7 +258,7 @@ fn compare_check(chart: &Chart, table: &Table, text: &[u8], tally: &mut Tally) {
 }
 
 // An answer in the refusal table's numbers.
-fn numbers_of(answer: Checked) -> Numbers {
+pub fn numbers_of(answer: Checked) -> Numbers {
     match answer {
         Checked::Accepted => Numbers::none(),
         Checked::Refused(r) => r.numbers(),

@@ -1,8 +1,8 @@
 // Holds the library's answers against another implementation of document 01's definitions, on every chart of one and two positions and
 // on pseudo-random ones up to the largest size. It writes what was compared, a line for each kind of chart, and each comparison that
 // fails with its chart. Some kinds come again with marks left blank, by draws of their own: the numbers must be the same. Then come charts
-// with positions of rest, whose count stands in the line, runs whose texts change, and ways to ruin. Nothing but the jobs that are compared is
-// shared with the library.
+// with positions of rest, whose count stands in the line, runs whose texts change, ways to ruin, and houses of lanes. Nothing but the jobs that
+// are compared is shared with the library.
 use crate::compare::RESTS;
 use crate::compare::Tally;
 use crate::compare::compare_chart;
@@ -10,6 +10,7 @@ use crate::generate::Blanks;
 use crate::generate::below;
 use crate::generate::blank_marks;
 use crate::generate::build;
+use crate::houses::compare_house;
 use crate::reports::COUNTED;
 use crate::reports::Card;
 use crate::reports::compare_run;
@@ -21,6 +22,7 @@ mod checker;
 mod compare;
 mod definition;
 mod generate;
+mod houses;
 mod listed;
 mod plays;
 mod reports;
@@ -53,6 +55,7 @@ fn main() {
     some_resting();
     some_swapped();
     some_ruined();
+    some_housed();
 }
 
 // Charts with positions of rest. By the numbers come two of one position and four of two that have no move: they are left out. Of three
@@ -82,31 +85,63 @@ fn some_swapped() {
         1,
         b"runs begun and not begun; reports taken as meant and as disturbances, refused with 13, 14, 18 and 15; taken with other texts than the last\n",
     );
-    runs(b"every chart of 1 position", 0, 6);
-    runs(b"every chart of 2 positions", 1, 900);
-    runs(b"every chart of 2 positions, some of rest", 11, 544);
-    runs(b"3 positions", 9, 1000);
-    runs(b"3 positions, some of rest", 19, 1000);
-    runs(b"3 to 8 positions", 4, 1000);
-    runs(b"3 to 8 positions, some of rest", 14, 1000);
-    runs(b"20 to 59 positions", 5, 60);
-    runs(b"20 to 59 positions, targets near, some of rest", 16, 60);
-    runs(b"512 positions, targets near", 8, 2);
+    runs(b"every chart of 1 position", 0, 6, false);
+    runs(b"every chart of 2 positions", 1, 900, false);
+    runs(b"every chart of 2 positions, some of rest", 11, 544, false);
+    runs(b"3 positions", 9, 1000, false);
+    runs(b"3 positions, some of rest", 19, 1000, false);
+    runs(b"3 to 8 positions", 4, 1000, false);
+    runs(b"3 to 8 positions, some of rest", 14, 1000, false);
+    runs(b"20 to 59 positions", 5, 60, false);
+    runs(
+        b"20 to 59 positions, targets near, some of rest",
+        16,
+        60,
+        false,
+    );
+    runs(b"512 positions, targets near", 8, 2, false);
 }
 
-// Runs on charts of a kind: on the one of each number, and another.
-fn runs(name: &[u8], kind: usize, charts: usize) {
+// Houses of up to 64 lanes, and six rows of reports of each, lent texts as runs are; some of the texts are damaged too.
+fn some_housed() {
+    io::write_all(
+        1,
+        b"houses; rows accepted, lanes moved; rows refused with 20, for the chart, with 11, 14, 13, 18 and 15; refused though another lane could move\n",
+    );
+    runs(b"every chart of 1 position", 0, 6, true);
+    runs(b"every chart of 2 positions", 1, 900, true);
+    runs(b"every chart of 2 positions, some of rest", 11, 544, true);
+    runs(b"3 positions", 9, 300, true);
+    runs(b"3 positions, some of rest", 19, 300, true);
+    runs(b"3 to 8 positions", 4, 300, true);
+    runs(b"3 to 8 positions, some of rest", 14, 300, true);
+    runs(b"20 to 59 positions", 5, 60, true);
+    runs(
+        b"20 to 59 positions, targets near, some of rest",
+        16,
+        60,
+        true,
+    );
+    runs(b"512 positions, targets near", 8, 2, true);
+}
+
+// Runs, or houses by draws of their own, on charts of a kind: on the one of each number, and another.
+fn runs(name: &[u8], kind: usize, charts: usize, housed: bool) {
     let mut tally = [0usize; 19];
-    let mut seed = 1;
+    let mut seed = if housed { 7 } else { 1 };
     let mut i = 0;
     while i < charts {
         let first = card(kind, i, &mut seed);
         let other = below(&mut seed, charts);
         let second = card(kind, other, &mut seed);
-        compare_run(first, second, &mut seed, &mut tally);
+        if housed {
+            compare_house(first, second, &mut seed, &mut tally);
+        } else {
+            compare_run(first, second, &mut seed, &mut tally);
+        }
         i += 1;
     }
-    report(&tally, COUNTED);
+    report(&tally, if housed { houses::COUNTED } else { COUNTED });
     io::write_all(1, name);
     report_count(b", mismatches: ", tally[17]);
     io::write_all(1, b"\n");

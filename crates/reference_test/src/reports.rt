@@ -82,10 +82,10 @@ struct Followed {
 }
 
 // What the library answers to a start or a report.
-struct Step {
-    refusal: Numbers,
-    run: Run,
-    advice: Advice,
+pub struct Step {
+    pub refusal: Numbers,
+    pub run: Run,
+    pub advice: Advice,
 }
 
 // What the definitions answer: the refusal's number, 0 for none, its position and condition, and the run.
@@ -106,7 +106,7 @@ pub fn compare_run(first: Card, second: Card, seed: &mut usize, tally: &mut Tall
     }
 }
 
-// The start: once in sixteen at the first number that is no position, and as often on a wrong plate.
+// The start: once in sixteen on a wrong plate.
 fn start(card: Card, seed: &mut usize, tally: &mut Tally) -> Followed {
     let mut chart = [0usize; 32768];
     let mut table = [0usize; 4096];
@@ -121,13 +121,18 @@ fn start(card: Card, seed: &mut usize, tally: &mut Tally) -> Followed {
     if cell(&chart, RIGHT, 0) == 0 {
         return none;
     }
-    let n = positions(&chart) % 1024;
-    let position = if below(seed, 16) == 0 {
+    let position = draw_start(&chart, seed);
+    compare_step(&chart, &table, none, true, position, way, tally)
+}
+
+// A position, or once in sixteen the first number that is none.
+pub fn draw_start(chart: &Chart, seed: &mut usize) -> usize {
+    let n = positions(chart) % 1024;
+    if below(seed, 16) == 0 {
         n
     } else {
         below(seed, n)
-    };
-    compare_step(&chart, &table, none, true, position, way, tally)
+    }
 }
 
 // A report with the texts of a number: eight of twelve are of the first chart.
@@ -160,7 +165,7 @@ fn report(
 }
 
 // The ways in which a chart is lent.
-const OWN: usize = 0;
+pub const OWN: usize = 0;
 
 const OPTIMAL: usize = 1;
 
@@ -168,7 +173,7 @@ const WRONG: usize = 2;
 
 const MARKED: usize = 3;
 
-fn lend(chart: &mut Chart, table: &mut Table, card: Card, way: usize, seed: &mut usize) {
+pub fn lend(chart: &mut Chart, table: &mut Table, card: Card, way: usize, seed: &mut usize) {
     let mut from = card.seed;
     build(chart, card.kind, card.number, &mut from);
     if way == MARKED {
@@ -185,7 +190,7 @@ fn lend(chart: &mut Chart, table: &mut Table, card: Card, way: usize, seed: &mut
 }
 
 // The other mark for a position, the same each time.
-fn mark(chart: &mut Chart, number: usize) {
+pub fn mark(chart: &mut Chart, number: usize) {
     let n = positions(chart);
     if 0 < n {
         let v = number % n;
@@ -205,7 +210,7 @@ fn choose_good(chart: &Chart, table: &mut Table, v: usize, seed: &mut usize) {
 }
 
 // Where the machine goes: by the choice, a meant move or a disturbance, or anywhere, one position further than the chart has.
-fn draw_target(chart: &Chart, table: &Table, v: usize, seed: &mut usize) -> usize {
+pub fn draw_target(chart: &Chart, table: &Table, v: usize, seed: &mut usize) -> usize {
     let way = below(seed, 8);
     if way < 3 {
         if owner(chart, v) == CONTROLLER {
@@ -258,14 +263,14 @@ fn answer(run: Run, begins: bool, text: &[u8], plate: &[u8], place: usize) -> St
     report_step(run.report(text, plate, place))
 }
 
-fn start_step(started: Started) -> Step {
+pub fn start_step(started: Started) -> Step {
     match started {
         Started::Begun(run, advice) => taken_step(run, advice),
         Started::Refused(r) => refused_step(Run::none(), r.numbers()),
     }
 }
 
-fn report_step(reported: Reported) -> Step {
+pub fn report_step(reported: Reported) -> Step {
     let run = reported.run;
     let answer = reported.answer;
     match answer {

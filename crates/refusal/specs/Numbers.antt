@@ -1,11 +1,11 @@
 -- What each refusal gives, as document 01's table has it: "A refusal gives a number and a line, counted from 0 in the chart (1 to 9) or
 -- plate (11), else 0; 14 gives the fault's position and condition besides", and document 02, order 4: "17 (with its line)", in the chart too;
--- order 5's 18 and order 6's 19 give none. The one definition of the table's numbers.
+-- order 5's 18, order 6's 19 and order 7's 20 give none. The one definition of the table's numbers.
 use Prim.Native.Nat.{ℕ}
 use Rattle.refusal.specs.declared.Misdrawn.{Misdrawn}
 use Rattle.refusal.specs.declared.Misdrawn.the-variants.{Length, Form, Limits, Count, Sequence, Endpoint, Disturbed, Resting, Order, NoMeant}
 use Rattle.refusal.specs.declared.Refusal.{Refusal}
-use Rattle.refusal.specs.declared.Refusal.the-variants.{Chart, Short, Plate, Choice, Position, Ever, Fault, Held, Move, Seen}
+use Rattle.refusal.specs.declared.Refusal.the-variants.{Lanes, Chart, Short, Plate, Choice, Position, Ever, Fault, Held, Move, Seen}
 use Rattle.refusal.specs.declared.Numbers.{Numbers}
 
 -- the table's column "No."
@@ -35,6 +35,7 @@ misdrawnLine (Order line) = line
 misdrawnLine (NoMeant line) = line
 
 abbrev pub refusalNumber : Refusal → ℕ
+refusalNumber Lanes = 20
 refusalNumber (Chart m) = misdrawnNumber m
 refusalNumber Short = 10
 refusalNumber (Plate line) = 11
@@ -48,6 +49,7 @@ refusalNumber Seen = 16
 
 -- "a line, counted from 0 in the chart (1 to 9) or plate (11), else 0"; 17 has its line in the chart
 abbrev pub refusalLine : Refusal → ℕ
+refusalLine Lanes = 0
 refusalLine (Chart m) = misdrawnLine m
 refusalLine Short = 0
 refusalLine (Plate line) = line
@@ -61,6 +63,7 @@ refusalLine Seen = 0
 
 -- "14 gives the fault's position and condition besides"
 abbrev pub refusalPosition : Refusal → ℕ
+refusalPosition Lanes = 0
 refusalPosition (Chart m) = 0
 refusalPosition Short = 0
 refusalPosition (Plate line) = 0
@@ -73,6 +76,7 @@ refusalPosition Move = 0
 refusalPosition Seen = 0
 
 abbrev pub refusalCondition : Refusal → ℕ
+refusalCondition Lanes = 0
 refusalCondition (Chart m) = 0
 refusalCondition Short = 0
 refusalCondition (Plate line) = 0

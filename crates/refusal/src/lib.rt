@@ -17,9 +17,11 @@ pub enum Misdrawn {
     NoMeant(usize),
 }
 
-// The table: a chart's refusal, then 10 to 16, 18 and 19 in the order of their tests. 11 has the plate's line, 14 the fault's position and
-// condition. 18 is tested between 14 and 15 (document 02, order 5), 19 after 13, by the way to ruin only (document 02, order 6).
+// The table in the order of its tests: 20, a chart's refusal, then 10 to 16, 18 and 19. 11 has the plate's line, 14 the fault's position
+// and condition. 18 is tested between 14 and 15 (document 02, order 5), 19 after 13, by the way to ruin only (order 6), 20 before the
+// chart, by a house of lanes only (order 7).
 pub enum Refusal {
+    Lanes,
     Chart(Misdrawn),
     Short,
     Plate(usize),
@@ -95,6 +97,7 @@ impl Refusal {
         ensures { λ r. ⌜ r ≡ refusalNumber self ⌝ }
     {
         match self {
+            Refusal::Lanes => 20,
             Refusal::Chart(m) => m.number(),
             Refusal::Short => 10,
             Refusal::Plate(_) => 11,
@@ -112,6 +115,7 @@ impl Refusal {
         ensures { λ r. ⌜ r ≡ refusalLine self ⌝ }
     {
         match self {
+            Refusal::Lanes => 0,
             Refusal::Chart(m) => m.line(),
             Refusal::Short => 0,
             Refusal::Plate(line) => line,
@@ -129,6 +133,7 @@ impl Refusal {
         ensures { λ r. ⌜ r ≡ refusalPosition self ⌝ }
     {
         match self {
+            Refusal::Lanes => 0,
             Refusal::Chart(_) => 0,
             Refusal::Short => 0,
             Refusal::Plate(_) => 0,
@@ -146,6 +151,7 @@ impl Refusal {
         ensures { λ r. ⌜ r ≡ refusalCondition self ⌝ }
     {
         match self {
+            Refusal::Lanes => 0,
             Refusal::Chart(_) => 0,
             Refusal::Short => 0,
             Refusal::Plate(_) => 0,

@@ -55,6 +55,10 @@ pub record RowsOf (a : Arena) (n m : ℕ) (owners marks costs froms tos : List �
 abbrev pub ChartRows : (n m : ℕ) (owners marks costs froms tos : List ℕ) → Type 0
 ChartRows n m owners marks costs froms tos = (a : Arena) × RowsOf a n m owners marks costs froms tos
 
+-- the moves of a position lie together, by the positions' order
+abbrev pub Ascending : ℕ → List ℕ → Type 0
+Ascending m froms = (i j : ℕ) → i ≤ j → j < m → getD froms i 0 ≤ getD froms j 0
+
 -- rows of m moves that join positions below n: no index leaves its row
 pub record Within (n m : ℕ) (costs froms tos : List ℕ) : Type 0 where
   pub costs-row : m ≤ length costs

@@ -15,7 +15,7 @@ use Rattle.chart.specs.Examined.{examined}
 use Rattle.chart.specs.Accepted.{accepted-few, accepted-size}
 use Rattle.rows.specs.declared.Chart.{Chart}
 use Rattle.refusal.specs.declared.Refusal.{Refusal}
-use Rattle.refusal.specs.declared.Refusal.the-variants.{Chart as OfChart, Short, Plate, Choice, Position, Ever, Fault, Held, Move, Seen}
+use Rattle.refusal.specs.declared.Refusal.the-variants.{Lanes, Chart as OfChart, Short, Plate, Choice, Position, Ever, Fault, Held, Move, Seen}
 use Rattle.chart.specs.declared.Examination.{Examination}
 use Rattle.chart.specs.declared.Examination.the-variants.{Accepted as Taken, Refused as Turned}
 use Rattle.plate.specs.Exact.{bad-line-exact, form-exact}
@@ -147,6 +147,7 @@ module _ (run : Run) (text plate : List ℕ) (to : ℕ) where
   refusal-from Held (w, apart) = accepted-report w ∙ rw (ne-eqb here (run .value) apart)
   refusal-from Move w = moved-report Neither w
   refusal-from Seen (w, l) = moved-report Disturbance w ∙ rw (le-ltb (run .seen) 99999 l)
+  refusal-from Lanes is = absurd is
   refusal-from Short is = absurd is
   refusal-from Choice is = absurd is
   refusal-from Ever is = absurd is
@@ -161,6 +162,14 @@ module _ (run : Run) (text plate : List ℕ) (to : ℕ) where
   report-exactly after r = (
     λ e. subst Is e answered,
     from after r,
+  )
+
+  -- of the answer alone
+  pub report-refused-exactly : (x : Refusal) → (reported run text plate to .answer ≡ Declined x) ↔ ReportRefused run text plate to x
+  unfolding unmoved
+  report-refused-exactly x = (
+    λ e. subst (ReportIs run text plate to (reported run text plate to .run)) e answered .0,
+    λ h. ap (λ (r : Reported). r .answer) (refusal-from x h),
   )
 
 -- "begins only by the start job": where none began, there is no run to report of. 13, whatever is reported
@@ -221,6 +230,7 @@ module _ (text plate : List ℕ) (position : ℕ) where
   start-refusal (Plate line) w = rw (w .taken, bad-line-exact (w .chart .positions) line plate .1 (w .bad))
   start-refusal Position (w, l) = readable-start w ∙ rw (le-ltb position n l)
   start-refusal (Fault v c) (is, l) = inside-start (faulty-readable is) l (FaultAt v c) (faulty-at text plate v c is)
+  start-refusal Lanes is = absurd is
   start-refusal Short is = absurd is
   start-refusal Choice is = absurd is
   start-refusal Ever is = absurd is

@@ -135,3 +135,7 @@ pub record RowsReport (n m : ℕ) (owners marks costs froms tos : List ℕ) (run
 -- and to a report with an accepted one
 pub record AcceptedReport (n m : ℕ) (owners costs froms tos : List ℕ) (run : Run) (plate : List ℕ) (to : ℕ) (r : Reported) : Type 0 where
   pub answer : (a : Arena) (marks : List ℕ) → RowsOf a n m owners marks costs froms tos → r ≡ reportedAccepted run a plate to
+
+-- to a report with a plate that Checking accepts
+pub record CheckedReport (n m : ℕ) (owners costs froms tos : List ℕ) (run : Run) (plate : List ℕ) (to : ℕ) (r : Reported) : Type 0 where
+  pub answer : (a : Arena) (marks : List ℕ) → RowsOf a n m owners marks costs froms tos → plateVerdict a plate ≡ Sound → r ≡ reportedInside run a plate to

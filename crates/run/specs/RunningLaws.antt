@@ -23,7 +23,7 @@ use Rattle.checking.specs.Checking.{PlateIs, answerOf, plateChecked, plateVerdi
 use Rattle.checking.specs.declared.Checked.{Checked}
 use Rattle.checking.specs.declared.Checked.the-variants.{Accepted, Refused as NotAccepted}
 use Rattle.moves.specs.Moves.{KindIs}
-use Rattle.run.specs.Running.{AcceptedReport, RowsReport, RowsStart, adviceAt, begunAt, offChart, reported, reportedBy, reportedForm, reportedInside, reportedMove, reportedAccepted, reportedVerdict, started, startedBy, startedForm, startedInside, startedVerdict, unmoved}
+use Rattle.run.specs.Running.{AcceptedReport, CheckedReport, RowsReport, RowsStart, adviceAt, begunAt, offChart, reported, reportedBy, reportedForm, reportedInside, reportedMove, reportedAccepted, reportedVerdict, started, startedBy, startedForm, startedInside, startedVerdict, unmoved}
 use Rattle.moves.specs.declared.Kind.{Kind}
 use Rattle.run.specs.declared.Run.{Run}
 use Rattle.run.specs.declared.Advice.{Advice}
@@ -98,6 +98,20 @@ module _ {n m : ℕ} {owners costs froms tos : List ℕ} (run : Run) (plate : Li
             is ∙ rw (eq-eqb (numberOf (valueIn plate (run .position))) (run .value) (sym e ∙ held))
             (ap (reportedMove run plate to) (sym told ∙ kind .answer a marks d (choiceIn plate (run .position)) z));
       }
+
+  -- on an accepted plate, where a position is not on the chart and where both are
+  pub checked-own-outside : n ≤ run .position → CheckedReport n m owners costs froms tos run plate to (unmoved run Position)
+  unfolding reportedInside
+  checked-own-outside l = record { answer = λ a marks d sound. rw (d .positions, le-ltb (run .position) n l) }
+
+  pub checked-outside : run .position < n → n ≤ to → CheckedReport n m owners costs froms tos run plate to (unmoved run Position)
+  unfolding reportedInside
+  checked-outside own l = record { answer = λ a marks d sound. rw (d .positions, lt-ltb (run .position) n own, le-ltb to n l) }
+
+  pub checked-inside : run .position < n → to < n → {r : Reported} → AcceptedReport n m owners costs froms tos run plate to r → CheckedReport n m owners costs froms tos run plate to r
+  unfolding reportedInside reportedVerdict
+  checked-inside own inside h =
+      record { answer = λ a marks d sound. h .answer a marks d ∙ rw (d .positions, lt-ltb (run .position) n own, lt-ltb to n inside, sound) }
 
 -- by Checking's answer, where both positions are on the chart
 unfoldable reportedChecked : Run → Arena → List ℕ → ℕ → Checked → Reported

@@ -3,10 +3,9 @@
 ghost use mathlib.Core.Path.{_≡_};
 ghost use mathlib.Core.List.{List};
 ghost use Prim.Native.Nat.{ℕ, _≤_, _<_};
-ghost use Rattle.rows.specs.Rows.{ChartRows};
+ghost use Rattle.rows.specs.Rows.{Ascending, ChartRows};
 ghost use Rattle.plate.specs.Formed.{formOf};
-ghost use Rattle.verdict.specs.Sheet.{Ascending};
-ghost use Rattle.run.specs.Running.{AcceptedReport, RowsReport, RowsStart, adviceAt, begunAt, moved, noRun, offChart, reported, standing, started, unmoved};
+ghost use Rattle.run.specs.Running.{AcceptedReport, CheckedReport, RowsReport, RowsStart, adviceAt, begunAt, moved, noRun, offChart, reported, standing, started, unmoved};
 use chart::Examination;
 use checking::Checked;
 use checking::check_plate;
@@ -59,6 +58,9 @@ impl Run {
     // The most disturbances that are counted.
     pub const COUNTED: u32 = 99999;
 
+    // The most lanes of a house.
+    pub const LANES: usize = 64;
+
     // A run at a position, on an accepted plate.
     pub fn start(text: &[u8], plate: &[u8], position: usize) -> Started
         ensures { λ r. ⌜ r ≡ started (now (text .entry)) (now (plate .entry)) position ⌝ }
@@ -109,6 +111,31 @@ impl Run {
                 report_rows(self, n, m, &owners, &marks, &costs, &froms, &tos, plate, to)
             }
         }
+    }
+
+    // The same from a chart's rows and a plate that is not tested again: 13, then what a report does after the plate's test. It is for plates
+    // that Checking accepts.
+    pub fn report_checked(
+        self,
+        n: usize,
+        m: usize,
+        owners: &[u8],
+        costs: &[u8],
+        froms: &[u16],
+        tos: &[u16],
+        plate: &[u8],
+        to: usize,
+    ) -> Reported
+        requires { ⌜ ((marks : List ℕ) × ChartRows n m (now owners) marks (now costs) (now froms) (now tos)) × Ascending m (now froms) × (formOf n (now plate) ≡ Form.Good) ⌝ }
+        ensures { λ r. ⌜ CheckedReport n m (now (owners .entry)) (now (costs .entry)) (now (froms .entry)) (now (tos .entry)) self (now (plate .entry)) to r ⌝ }
+    {
+        if n <= self.position {
+            return self.unmoved(Refusal::Position);
+        }
+        if n <= to {
+            return self.unmoved(Refusal::Position);
+        }
+        report_accepted(self, n, m, owners, costs, froms, tos, plate, to)
     }
 
     // No run: what a caller holds where no start began one. It stands on no chart, so every report of it is refused.
@@ -263,7 +290,7 @@ fn report_accepted(
     plate: &[u8],
     to: usize,
 ) -> Reported
-    requires { ⌜ ((marks : List ℕ) × ChartRows n m (now owners) marks (now costs) (now froms) (now tos)) × (formOf n (now plate) ≡ Form.Good) × (run .position < n) × (to < n) ⌝ }
+    requires { ⌜ ((marks : List ℕ) × ChartRows n m (now owners) marks (now costs) (now froms) (now tos)) × Ascending m (now froms) × (formOf n (now plate) ≡ Form.Good) × (run .position < n) × (to < n) ⌝ }
     ensures { λ r. ⌜ AcceptedReport n m (now (owners .entry)) (now (costs .entry)) (now (froms .entry)) (now (tos .entry)) run (now (plate .entry)) to r ⌝ }
 {
     let v = run.position;

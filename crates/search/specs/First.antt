@@ -1,5 +1,5 @@
 -- The first that fails: of a loop that tests one number after the other and answers at the first whose test fails. The lines of a
--- chart and of a plate, the positions of Checking and those of Comparing are all gone through so.
+-- chart and of a plate, the positions of Checking and those of Comparing, and the lanes of a house are all gone through so.
 use Prim.Native.Nat.{ℕ, zero, suc, _+_, _≤_, _<_, _-_}
 use native.Mathlib.Omega.{arith}
 use native.Mathlib.Nat.{eq-or-lt-of-le}

@@ -53,10 +53,6 @@ pub record Formed (n : ℕ) (values steps : List ℕ) : Type 0 where
   pub value : (v : ℕ) → v < n → (getD values v 0 ≡ 65535) ⊎ (getD values v 0 < 512)
   pub step : (v : ℕ) → v < n → (getD steps v 0 ≡ 65535) ⊎ (getD steps v 0 < 512)
 
--- the moves of a position lie together, by the positions' order
-abbrev pub Ascending : ℕ → List ℕ → Type 0
-Ascending m froms = (i j : ℕ) → i ≤ j → j < m → getD froms i 0 ≤ getD froms j 0
-
 -- the position v, and the j-th move
 abbrev pub lineOf : (owners marks values choices steps : List ℕ) → ℕ → Line
 lineOf owners marks values choices steps v =

@@ -9,10 +9,11 @@ use mathlib.Core.Logic.{_⊎_, inl, inr}
 use mathlib.Core.Bool.{Bool, true, false, _||_}
 use lib.ListN.{getD}
 use borrow.Author.Tests.{eq-eqb, ne-eqb}
+use Rattle.rows.specs.Rows.{Ascending}
 use Rattle.rows.specs.Numbers.{numberAt}
 use Rattle.rows.specs.Notes.{found, found-none, found-next, found-all, found-more}
 use Rattle.conditions.specs.Position.{afterMoves, beforeMoves, isController, joined, nothing, shown}
-use Rattle.verdict.specs.Sheet.{Ascending, Sheet, lineAt, rowFault, seenBelow, targetAt}
+use Rattle.verdict.specs.Sheet.{Sheet, lineAt, rowFault, seenBelow, targetAt}
 use Rattle.conditions.specs.declared.Line.{Line}
 use Rattle.conditions.specs.declared.Target.{Target}
 use Rattle.conditions.specs.declared.Seen.{Seen}

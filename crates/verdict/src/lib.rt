@@ -2,10 +2,10 @@
 ghost use mathlib.Core.Path.{_≡_};
 ghost use Prim.Native.Nat.{_≤_, _<_};
 ghost use lib.ListN.{length, getD};
-ghost use Rattle.rows.specs.Rows.{ChartRows, Within};
+ghost use Rattle.rows.specs.Rows.{Ascending, ChartRows, Within};
 ghost use Rattle.rows.specs.Numbers.{rowValue};
 ghost use Rattle.first_line.specs.Counting.{PairsFit};
-ghost use Rattle.verdict.specs.Sheet.{Ascending, Formed, Sized, lineOf, rowFault, sheet};
+ghost use Rattle.verdict.specs.Sheet.{Formed, Sized, lineOf, rowFault, sheet};
 ghost use Rattle.verdict.specs.Ranks.{Ranked, RowsRanked, rankedTarget};
 ghost use Rattle.verdict.specs.Verdict.{firstFault, headerVerdict};
 ghost use Rattle.verdict.specs.RowsChecked.{RowsChecked};

@@ -4,13 +4,13 @@ use conformance::blanks::leave_out;
 use conformance::capi::{self, Listed, Run};
 use conformance::chart::{Chart, Owner, Position, MOVES, POSITIONS};
 use conformance::measure::{stack, times};
-use conformance::model::Subject;
+use conformance::model::{Subject, LANES};
 use conformance::random::Random;
 use conformance::shapes::{
     all_good, blocks, console_chain, drawn, filled, lane_chain, rest_chain, rested, Reach, Shape,
 };
 use conformance::solver;
-use conformance::stacks::{first_report, stacks};
+use conformance::stacks::{first_report, full_house, stacks};
 use std::hint::black_box;
 
 mod lines;
@@ -20,13 +20,14 @@ const JOBS: [&str; 6] = ["value", "write", "check", "weigh", "good", "ruin"];
 /// The shape of the random charts with an even mix.
 const EVEN: Shape = Shape { lane: 30, hazards: 5, meant: 8, disturbances: 8, reach: Reach::Anywhere };
 
-/// What the jobs are given: a chart with its plate, the plate's choices, a run with a report, and the position with the longest
-/// way to ruin; and what is to be answered, the count of good moves and that of the way's lines.
+/// What the jobs are given: a chart with its plate, the plate's choices, a run with a report, a full house with its reports, and
+/// the position with the longest way to ruin; and what is to be answered, the count of good moves and that of the way's lines.
 struct Input {
     chart: Vec<u8>,
     plate: Vec<u8>,
     choices: Vec<u16>,
     report: (Run, usize),
+    house: ([Run; LANES], [u16; LANES]),
     good_moves: usize,
     position: usize,
     way: Listed,
@@ -38,13 +39,13 @@ impl Input {
         let subject = Subject::new(&text);
         let (_, plate) = subject.write(22 * (chart.len() + 1));
         let choices = subject.valuation(chart).choices.clone();
-        let report = first_report(&subject, chart);
+        let (report, house) = (first_report(&subject, chart), full_house(&subject, chart));
         let good_moves = subject.good_moves(12 * MOVES).0.lines;
         let ruin = |position| solver::ruin(&text, &choices, position, &mut [0; 12 * POSITIONS]);
         // Where there is no way from anywhere, 19 is answered from every position.
         let position = (0..chart.len()).max_by_key(|&position| ruin(position).lines).expect("there is a position");
         let way = ruin(position);
-        Input { plate, choices, report, good_moves, position, way, chart: text }
+        Input { plate, choices, report, house, good_moves, position, way, chart: text }
     }
 }
 
@@ -211,6 +212,28 @@ fn reports() {
     }
 }
 
+/// A full house all over the chart: it checks its plate once, so it should cost little more than one report.
+fn houses() {
+    println!(
+        "\nA house of 64 lanes that all report beside a single report with the same texts, and beside 64 of these,"
+    );
+    println!("all the library's. Microseconds a call, and the multiple of one report's.\n");
+    println!("{:<40}{:>10}{:>10}{:>12}{:>8}", "chart", "house", "report", "64 reports", "ratio");
+    for (name, chart) in kinds().into_iter().chain(small_kinds()) {
+        let input = &Input::new(&chart);
+        let ((run, to), (runs, reports)) = (input.report, &input.house);
+        let single = || assert_eq!(capi::report(black_box(run), &input.chart, &input.plate, to).refusal.number, 0);
+        let mut lanes = *runs;
+        let mut house = || {
+            lanes.copy_from_slice(black_box(runs));
+            assert_eq!(capi::report_house(&mut lanes, reports, &input.chart, &input.plate).moved, LANES);
+        };
+        let (_, all) = times(&mut house, || (0..LANES).for_each(|_| single()));
+        let (house, report) = times(&mut house, single);
+        println!("{name:<40}{house:>10.2}{report:>10.2}{all:>12.2}{:>8.2}", house / report);
+    }
+}
+
 /// A way to ruin, the longest of its chart, beside Valuing and Weighing.
 fn ways() {
     println!(
@@ -276,6 +299,7 @@ fn main() {
     reading();
     lines::lines();
     reports();
+    houses();
     ways();
     growth();
     memory();

@@ -55,17 +55,17 @@ const LARGE_PLATE: &[&str] = &[
 type Texts = (&'static [&'static str], &'static [&'static str], (&'static str, &'static str));
 
 const SAME: (&str, &str) = ("", "");
-const OWN: usize = 0;
-const OTHER_CHOICE: usize = 1;
-const OTHER_CHART: usize = 2;
-const SMALLER: usize = 3;
+pub const OWN: usize = 0;
+pub const OTHER_CHOICE: usize = 1;
+pub const OTHER_CHART: usize = 2;
+pub const SMALLER: usize = 3;
 const LARGER: usize = 4;
-const FAULT_AT_0: usize = 5;
-const FAULT_AT_2: usize = 6;
+pub const FAULT_AT_0: usize = 5;
+pub const FAULT_AT_2: usize = 6;
 const SMALL_FAULT: usize = 7;
-const NO_PLATE: usize = 8;
-const MISDRAWN: usize = 9;
-const FAULT_ABOVE: usize = 10;
+pub const NO_PLATE: usize = 8;
+pub const MISDRAWN: usize = 9;
+pub const FAULT_ABOVE: usize = 10;
 
 const TEXTS: [Texts; 11] = [
     (CHART, PLATE, SAME),
@@ -87,7 +87,7 @@ type Report = (usize, usize, Refusal, (usize, u32, u16));
 
 const TAKEN: Refusal = refused(0);
 
-const fn refused(number: u32) -> Refusal {
+pub const fn refused(number: u32) -> Refusal {
     Refusal { number, line: 0, position: 0, condition: 0 }
 }
 
@@ -119,7 +119,7 @@ const RUNS: [(usize, &[Report]); 8] = [
           (MISDRAWN, 9, Refusal { number: 9, line: 1, position: 0, condition: 0 }, (0, 0, 2)), (OWN, 1, TAKEN, (1, 0, 2))]),
 ];
 
-const fn fault(position: usize, condition: u8) -> Refusal {
+pub const fn fault(position: usize, condition: u8) -> Refusal {
     Refusal { number: 14, line: 0, position, condition }
 }
 
@@ -133,11 +133,16 @@ const MADE_UP: [(usize, u32, usize, u16, u32); 18] = [
     (0, 0, 5, 1, 13),
 ];
 
-pub fn part(trial: &mut Trial) {
-    let texts = TEXTS.map(|(chart, plate, (old, new))| {
+/// The texts by their places.
+pub fn texts() -> [(Vec<u8>, Vec<u8>); TEXTS.len()] {
+    TEXTS.map(|(chart, plate, (old, new))| {
         let lines: Vec<&str> = plate.iter().map(|line| if *line == old { new } else { line }).collect();
         (text(chart), text(&lines))
-    });
+    })
+}
+
+pub fn part(trial: &mut Trial) {
+    let texts = texts();
     for (place, (chart, plate)) in texts.iter().enumerate() {
         let subject = Subject::new(chart);
         trial.input(&subject);

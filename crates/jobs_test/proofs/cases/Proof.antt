@@ -7,13 +7,16 @@ use Rattle.jobs_test.proofs.cases.Statement.{statement}
 use Rattle.jobs_test.proofs.cases.Tie as tie
 
 abbrev Inv-loop : tie.InvT-loop
-Inv-loop input at₀ run₀ k₀ at run k = k ≤ 1000
+Inv-loop input at₀ held₀ k₀ at held k = k ≤ 1000
 
 abbrev μ-loop : tie.MeasureT-loop
-μ-loop input at₀ run₀ k₀ at run k = 1000 - k
+μ-loop input at₀ held₀ k₀ at held k = 1000 - k
 
 none-requires : tie.Need-none-requires Inv-loop μ-loop
 none-requires c κs = search needs
+
+empty-requires : tie.Need-empty-requires Inv-loop μ-loop
+empty-requires c κs = search needs
 
 loop-holds : tie.Need-loop-holds Inv-loop μ-loop
 loop-holds c = omega arith
@@ -43,6 +46,7 @@ cases-spec =
     Inv-loop
     μ-loop
     none-requires
+    empty-requires
     loop-holds
     case-at-requires
     show-case-requires

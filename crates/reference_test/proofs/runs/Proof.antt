@@ -5,10 +5,10 @@ use Rattle.reference_test.proofs.runs.Statement.{statement}
 use Rattle.reference_test.proofs.runs.Tie as tie
 
 abbrev Inv-loop : tie.InvT-loop
-Inv-loop name kind charts tally₀ seed₀ i₀ t10 t11 tally seed i = i ≤ charts
+Inv-loop name kind charts housed tally₀ seed₀ i₀ t11 t12 tally seed i = i ≤ charts
 
 abbrev μ-loop : tie.MeasureT-loop
-μ-loop name kind charts tally₀ seed₀ i₀ t10 t11 tally seed i = charts - i
+μ-loop name kind charts housed tally₀ seed₀ i₀ t11 t12 tally seed i = charts - i
 
 loop-holds : tie.Need-loop-holds Inv-loop μ-loop
 loop-holds c = search needs
@@ -21,6 +21,9 @@ below-requires c κs = search needs
 
 card-requires-2 : tie.Need-card-requires-2 Inv-loop μ-loop
 card-requires-2 c κs = search needs
+
+compare-house-requires : tie.Need-compare-house-requires Inv-loop μ-loop
+compare-house-requires c κs = search needs
 
 compare-run-requires : tie.Need-compare-run-requires Inv-loop μ-loop
 compare-run-requires c κs = search needs
@@ -68,6 +71,7 @@ runs-spec =
     card-requires
     below-requires
     card-requires-2
+    compare-house-requires
     compare-run-requires
     add-i
     loop-less

@@ -41,7 +41,7 @@ report-accepted-requires c κs =
     let checked = c .before .before in
     let pre = checked .before .before .before .before .before .before .before .before .before .before .pre in
     let form = accepted-form _ (pre .0 .1) (checked .check-plate .ensures) (c .enum-told .given .1) in
-    ((_, pre .0), form, checked .before .before .if1 .left, checked .before .if2 .left)
+    ((_, pre .0), pre .1, form, checked .before .before .if1 .left, checked .before .if2 .left)
 
 returns-3 : tie.Need-returns-3
 returns-3 c =

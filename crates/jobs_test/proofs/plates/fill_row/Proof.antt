@@ -1,23 +1,23 @@
--- `jobs_test::plates::fill_row` is safe and ends: it counts `v` up to 16.
+-- `jobs_test::plates::fill_row` is safe and ends: it counts `v` up to 66.
 use Prim.Native.Nat.{_-_, _≤_}
 use borrow.Author.Needs.{needs}
 use Rattle.jobs_test.proofs.plates.fill_row.Statement.{statement}
 use Rattle.jobs_test.proofs.plates.fill_row.Tie as tie
 
 abbrev Inv-loop : tie.InvT-loop
-Inv-loop fields row₀ v₀ row v = v ≤ 16
+Inv-loop fields row₀ v₀ row v = v ≤ 66
 
 abbrev μ-loop : tie.MeasureT-loop
-μ-loop fields row₀ v₀ row v = 16 - v
+μ-loop fields row₀ v₀ row v = 66 - v
 
 loop-holds : tie.Need-loop-holds Inv-loop μ-loop
 loop-holds c = search needs
 
-mul-choice : tie.Need-mul-choice Inv-loop μ-loop
-mul-choice c = search needs
+mul-entry : tie.Need-mul-entry Inv-loop μ-loop
+mul-entry c = search needs
 
-choice-requires : tie.Need-choice-requires Inv-loop μ-loop
-choice-requires c κs = search needs
+entry-requires : tie.Need-entry-requires Inv-loop μ-loop
+entry-requires c κs = search needs
 
 mul-row : tie.Need-mul-row Inv-loop μ-loop
 mul-row c = search needs
@@ -44,8 +44,8 @@ fill-row-spec =
     Inv-loop
     μ-loop
     loop-holds
-    mul-choice
-    choice-requires
+    mul-entry
+    entry-requires
     mul-row
     element-write-row
     add-v

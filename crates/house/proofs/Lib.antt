@@ -1,0 +1,4 @@
+pub mod Again
+pub mod Counted
+pub mod Records
+pub mod Shared
