@@ -212,6 +212,17 @@ dushemqa_valued dushemqa_value(const uint8_t *chart, size_t chart_length,
                                uint16_t *choices, size_t choices_length,
                                uint16_t *steps, size_t steps_length);
 
+/* Valuing the plain way. There are two ways through the rounds that give a chart's values and steps: the plain one walks all moves
+ * in every round; the filed one has each move filed under its target, and looks in each round only at the moves into positions
+ * that were placed just before. dushemqa_value goes the filed way, and so does every other job that goes through rounds; this
+ * function goes the plain one. For every text, and whatever rows are lent, the two give the same answer and leave the same rows.
+ * One wants the plain way to set the one against the other; where a chart has many rounds it takes longer.
+ * What is lent and the refusals are as for dushemqa_value. */
+dushemqa_valued dushemqa_value_plain(const uint8_t *chart, size_t chart_length,
+                                     uint16_t *values, size_t values_length,
+                                     uint16_t *choices, size_t choices_length,
+                                     uint16_t *steps, size_t steps_length);
+
 /* Writing: the plate of a chart.
  *   chart, chart_length  the chart's bytes
  *   plate, plate_length  a buffer for the plate; bytes past the plate's last line stay. DUSHEMQA_MAX_PLATE_BYTES always suffice

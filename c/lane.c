@@ -5,6 +5,7 @@
  * It decides nothing itself. A command is a function and a row of the table below. */
 #define _POSIX_C_SOURCE 200809L
 #include <fcntl.h>
+#include <limits.h>
 #include <signal.h>
 #include <string.h>
 #include <unistd.h>
@@ -63,6 +64,11 @@ static const struct command commands[] = {
      "Either all lanes of a row move that report, or none does: then the lowest lane whose report is refused is said on\n"
      "standard error, the house goes on from where it stood, and the status is 1 at the end. The plate is checked at each\n"
      "row, also at one of - only. A line 'swap CHART PLATE' is as for 'lane run'. Messages count rows and swaps alike.\n"},
+    {"ways", "CHART...", 1, INT_MAX, NULL, ways_command, "value charts both ways",
+     "Values each CHART the filed way, as all other commands do, and the plain way, which walks all moves in every round.\n"
+     "A line for each says that both ways agree, with the counts of positions and of rounds. Should they ever differ, it has\n"
+     "what each way gives, at the first position where that is not the same. The status is 0 if they agree on all charts,\n"
+     "1 if a chart is refused or they differ.\n"},
     {"collection", "FOLDER [--write]", 1, 1, "--write", collection_command, "every chart of a folder against its plate",
      "A line for each chart (*.chart, *.txt) in FOLDER, by name, and a summary. A chart is accepted, faulted (its plate is\n"
      "wrong), missing (its plate is), refused (it is no chart), or failed (a file can't be read or written). The plate lies\n"

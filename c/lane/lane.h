@@ -32,6 +32,7 @@ enum status good_command(const struct call *call);
 enum status ruin_command(const struct call *call);
 enum status run_command(const struct call *call);
 enum status house_command(const struct call *call);
+enum status ways_command(const struct call *call);
 enum status collection_command(const struct call *call);
 enum status picture_command(const struct call *call);
 enum status explain_command(const struct call *call);

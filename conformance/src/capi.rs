@@ -96,10 +96,15 @@ pub struct House {
     pub moved: usize,
 }
 
+/// A way of Valuing: the chart, and the rows for values, choices and steps.
+pub type Valuing = fn(&[u8], &mut [u16], &mut [u16], &mut [u16]) -> Valued;
+
 #[rustfmt::skip]
 extern "C" {
     fn dushemqa_value(chart: *const u8, chart_length: usize, values: *mut u16, values_length: usize,
                       choices: *mut u16, choices_length: usize, steps: *mut u16, steps_length: usize) -> Valued;
+    fn dushemqa_value_plain(chart: *const u8, chart_length: usize, values: *mut u16, values_length: usize,
+                            choices: *mut u16, choices_length: usize, steps: *mut u16, steps_length: usize) -> Valued;
     fn dushemqa_write(chart: *const u8, chart_length: usize, plate: *mut u8, plate_length: usize) -> Written;
     fn dushemqa_read(chart: *const u8, chart_length: usize, plate: *const u8, plate_length: usize,
                      values: *mut u16, values_length: usize, choices: *mut u16, choices_length: usize,
@@ -126,6 +131,21 @@ extern "C" {
 pub fn value(chart: &[u8], values: &mut [u16], choices: &mut [u16], steps: &mut [u16]) -> Valued {
     unsafe {
         dushemqa_value(
+            chart.as_ptr(),
+            chart.len(),
+            values.as_mut_ptr(),
+            values.len(),
+            choices.as_mut_ptr(),
+            choices.len(),
+            steps.as_mut_ptr(),
+            steps.len(),
+        )
+    }
+}
+
+pub fn value_plain(chart: &[u8], values: &mut [u16], choices: &mut [u16], steps: &mut [u16]) -> Valued {
+    unsafe {
+        dushemqa_value_plain(
             chart.as_ptr(),
             chart.len(),
             values.as_mut_ptr(),

@@ -1,4 +1,4 @@
-//! Measuring two programs side by side: the time of a call, and the stack that a call uses.
+//! Measuring programs side by side: the time of a call, and the stack that a call uses.
 
 use std::thread;
 use std::time::{Duration, Instant};
@@ -9,21 +9,24 @@ const BATCHES: usize = 25;
 /// How long a batch should take at least.
 const BATCH: Duration = Duration::from_millis(1);
 
-/// The microseconds that a call of each of two programs takes: medians over batches that take turns, so that whatever
-/// else the machine does meets both alike.
-pub fn times(mut one: impl FnMut(), mut other: impl FnMut()) -> (f64, f64) {
-    let (calls, other_calls) = (batch_size(&mut one), batch_size(&mut other));
-    let mut taken = [Vec::new(), Vec::new()];
+/// A program to measure: one call of it.
+pub type Program<'a> = &'a mut dyn FnMut();
+
+/// The microseconds that a call of each program takes: medians over batches that take turns, so that whatever else the
+/// machine does meets all alike.
+pub fn times<const N: usize>(mut programs: [Program; N]) -> [f64; N] {
+    let calls = programs.each_mut().map(|program| batch_size(*program));
+    let mut taken = [const { Vec::new() }; N];
     for _ in 0..BATCHES {
-        taken[0].push(batch(&mut one, calls));
-        taken[1].push(batch(&mut other, other_calls));
+        for ((program, calls), taken) in programs.iter_mut().zip(calls).zip(&mut taken) {
+            taken.push(batch(*program, calls));
+        }
     }
-    let [one, other] = taken.map(median);
-    (one, other)
+    taken.map(median)
 }
 
 /// How many calls make a batch. Finding it out warms up the program too.
-fn batch_size(program: &mut impl FnMut()) -> usize {
+fn batch_size(program: Program) -> usize {
     let mut calls = 1;
     while batch(program, calls) * (calls as f64) < BATCH.as_secs_f64() * 1e6 {
         calls *= 2;
@@ -32,7 +35,7 @@ fn batch_size(program: &mut impl FnMut()) -> usize {
 }
 
 /// The microseconds of one call, from a batch of them.
-fn batch(program: &mut impl FnMut(), calls: usize) -> f64 {
+fn batch(program: Program, calls: usize) -> f64 {
     let begin = Instant::now();
     for _ in 0..calls {
         program();

@@ -40,6 +40,7 @@ pub fn stacks(text: &[u8]) -> Vec<(&'static str, usize)> {
         stack(|| taken(capi::good_moves(text, &mut sheet).refusal.number)),
         stack(|| assert_eq!(capi::ruin(text, choices, last, &mut play).refusal, way)),
         stack(|| assert_eq!(capi::report_house(&mut runs, &reports, text, plate).moved, LANES)),
+        stack(|| taken(capi::value_plain(text, values, others, steps).refusal.number)),
     ];
     JOBS.into_iter().zip(bytes).collect()
 }

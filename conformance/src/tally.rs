@@ -3,9 +3,9 @@
 
 use crate::{blanks, houses, rests, sheets, swaps, ways};
 
-/// The jobs, in the order of the header.
-pub const JOBS: [&str; 11] =
-    ["value", "write", "read", "check", "weigh", "compare", "start", "report", "good", "ruin", "house"];
+/// The jobs, in the order of the header, and Valuing the plain way.
+pub const JOBS: [&str; 12] =
+    ["value", "write", "read", "check", "weigh", "compare", "start", "report", "good", "ruin", "house", "plain"];
 
 /// The refusals of the table, with 0 for none.
 const NUMBERS: usize = 21;
@@ -14,7 +14,7 @@ const NUMBERS: usize = 21;
 #[rustfmt::skip]
 const BEYOND: [&[usize]; JOBS.len()] = [
     &[10], &[10], &[10, 11], &[11, 14], &[10, 12], &[10, 11, 12, 14], &[11, 13, 14], &[11, 13, 14, 15, 16, 18], &[10],
-    &[10, 12, 13, 19], &[11, 13, 14, 15, 16, 18, 20],
+    &[10, 12, 13, 19], &[11, 13, 14, 15, 16, 18, 20], &[10],
 ];
 
 /// Fewer sightings than this of a refusal or a condition are too few to count as a test of it.

@@ -1,6 +1,6 @@
 //! One call of the library set against the model: the whole answer, and every lent byte or number after the call.
 
-use crate::capi::{self, House, Refusal, Run, Step, NONE};
+use crate::capi::{self, House, Refusal, Run, Step, Valuing, NONE};
 use crate::chart::Chart;
 use crate::houses::Rows;
 use crate::model::{self, plate_text, Plate, Subject, LANES};
@@ -112,15 +112,18 @@ impl Trial {
         }
     }
 
+    /// Valuing both ways: the one that all jobs go, and the plain one.
     pub fn value(&mut self, subject: &Subject, lengths: [usize; 3]) {
         let (answer, rows) = subject.value(lengths);
-        let mut lent = lengths.map(Lent::new);
-        let [values, choices, steps] = &mut lent;
-        let got = capi::value(subject.text, values.lend(), choices.lend(), steps.lend());
         let given = Given { lengths: &lengths, ..Given::default() };
-        self.settle(0, answer.refusal, got == answer && hold(&lent, &rows), || {
-            show(0, subject, &[], &given, &(answer, &rows), &(got, lent.each_ref().map(Lent::shown)))
-        });
+        for (job, value) in [(0, capi::value as Valuing), (11, capi::value_plain)] {
+            let mut lent = lengths.map(Lent::new);
+            let [values, choices, steps] = &mut lent;
+            let got = value(subject.text, values.lend(), choices.lend(), steps.lend());
+            self.settle(job, answer.refusal, got == answer && hold(&lent, &rows), || {
+                show(job, subject, &[], &given, &(answer, &rows), &(got, lent.each_ref().map(Lent::shown)))
+            });
+        }
     }
 
     pub fn write(&mut self, subject: &Subject, length: usize) {

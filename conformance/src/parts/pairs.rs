@@ -87,6 +87,7 @@ struct Outcome {
     listed: Listed,
     ruined: Listed,
     housed: House,
+    valued_plain: Valued,
     valued_rows: [Lent<u16>; 3],
     plate: Lent<u8>,
     read_rows: [Lent<u16>; 3],
@@ -94,16 +95,18 @@ struct Outcome {
     sheet: Lent<u8>,
     way: Lent<u8>,
     runs: Lent<Run>,
+    plain_rows: [Lent<u16>; 3],
 }
 
 /// `room` is how much is lent for a way to ruin, and `rows` a house.
 fn outcome(chart: &[u8], setting: &Setting, besides: &Besides, room: usize, rows: Rows) -> Outcome {
     let (plate, choices) = (&setting.plate, &setting.choices);
-    let (mut valued_rows, mut read_rows) = (besides.rows.map(Lent::new), besides.rows.map(Lent::new));
+    let [mut valued_rows, mut read_rows, mut plain_rows] = [besides.rows; 3].map(|lengths| lengths.map(Lent::new));
     let (mut written, mut worths) = (Lent::new(besides.buffer), Lent::new(besides.rows[0]));
     let (mut sheet, mut way, mut runs) = (Lent::new(besides.sheet), Lent::new(room), Lent::of(rows.runs));
     let [values, others, steps] = &mut valued_rows;
     let [read_values, read_choices, read_steps] = &mut read_rows;
+    let [plain_values, plain_choices, plain_steps] = &mut plain_rows;
     Outcome {
         valued: capi::value(chart, values.lend(), others.lend(), steps.lend()),
         written: capi::write(chart, written.lend()),
@@ -116,6 +119,7 @@ fn outcome(chart: &[u8], setting: &Setting, besides: &Besides, room: usize, rows
         listed: capi::good_moves(chart, sheet.lend()),
         ruined: capi::ruin(chart, choices, besides.start, way.lend()),
         housed: capi::report_house(runs.lend(), rows.reports, chart, plate),
+        valued_plain: capi::value_plain(chart, plain_values.lend(), plain_choices.lend(), plain_steps.lend()),
         valued_rows,
         plate: written,
         read_rows,
@@ -123,5 +127,6 @@ fn outcome(chart: &[u8], setting: &Setting, besides: &Besides, room: usize, rows
         sheet,
         way,
         runs,
+        plain_rows,
     }
 }

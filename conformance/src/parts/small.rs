@@ -1,6 +1,6 @@
-//! Part 1: every chart of one, two and three positions, with positions of rest and without, is valued, its plate written,
-//! read and checked, the plate's choices weighed, and its good moves listed. Of all positional controllers of each, those
-//! are optimal whose choices are listed.
+//! Part 1: every chart of one, two and three positions, with positions of rest and without, is valued both ways, its plate
+//! written, read and checked, the plate's choices weighed, and its good moves listed. Of all positional controllers of
+//! each, those are optimal whose choices are listed.
 
 use super::{controllers, Share};
 use crate::chart::{small_chart, small_charts, Chart};

@@ -8,6 +8,7 @@ pub mod BlankMarks
 pub mod GoodMoves
 pub mod Rest
 pub mod WayToRuin
+pub mod TwoWays
 pub mod EdgeCharts
 pub mod SanctionedLaws
 pub mod RowLaws
@@ -22,4 +23,5 @@ pub mod BlankMarksHold
 pub mod GoodMovesHold
 pub mod RestHolds
 pub mod WayToRuinHolds
+pub mod TwoWaysHold
 pub mod EdgeChartsHold

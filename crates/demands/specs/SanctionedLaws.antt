@@ -7,8 +7,7 @@ use mathlib.Core.List.{List}
 use lib.ListN.{length, take, drop}
 use lib.Seq.{take-at}
 use lib.Dec.{leb}
-use Rattle.rows.specs.FirstLine.{FirstLineIs, firstLineOf}
-use Rattle.game.specs.Arena.{Arena, size}
+use Rattle.game.specs.Arena.{size}
 use Rattle.game.specs.Table.{roundValue, roundStep}
 use Rattle.chart.specs.Meaning.{arenaOf}
 use Rattle.chart.specs.Examined.{examined}
@@ -16,6 +15,7 @@ use Rattle.chart.specs.Accepted.{accepted-size}
 use Rattle.rows.specs.declared.Chart.{Chart}
 use Rattle.chart.specs.declared.Examination.{Examination}
 use Rattle.chart.specs.declared.Examination.the-variants.{Accepted as Taken, Refused}
+use Rattle.valuing.specs.Columns.{first-line-counted}
 use Rattle.writing.specs.Writing.{plateOf, roundsFirstLine, written, writtenBy, WrittenIs}
 use Rattle.writing.specs.WritingLaws.{plate-length}
 use Rattle.refusal.specs.declared.Refusal.the-variants.{Short}
@@ -51,15 +51,11 @@ written-plate {text} {out} {k} w =
     let l = t .length-is in
     ap (take k) (w .taken k refl) ∙ take-at (plateOf (arenaOf text)) (drop k out) k (plate-length (arenaOf text) ∙ omega (arith, n, l))
 
--- and its header is counted from its rows
-first-line-is-counted : (a : Arena) → FirstLineIs (size a) (roundValue a) (roundStep a) (roundsFirstLine a)
-unfolding firstLineOf
-first-line-is-counted a = record { rounds = refl; highest-value = refl; evers = refl }
-
 -- Checking accepts the plate that Writing makes
 pub written-is-accepted : (text : List ℕ) (chart : Chart) → examined text ≡ Taken chart → checked text (plateOf (arenaOf text)) ≡ Accepted
 unfolding plateOf
-written-is-accepted text chart taken = rounds-plate-is-accepted text chart taken (roundsFirstLine (arenaOf text)) (first-line-is-counted (arenaOf text))
+written-is-accepted text chart taken =
+    let a = arenaOf text in rounds-plate-is-accepted text chart taken (roundsFirstLine a) (first-line-counted (size a) (roundValue a) (roundStep a))
 
 pub sanctioned-is-accepted : (text plate : List ℕ) → Sanctioned text plate → checked text plate ≡ Accepted
 sanctioned-is-accepted text plate (byChecking e) = e

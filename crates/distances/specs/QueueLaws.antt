@@ -1,40 +1,19 @@
 -- A position more in the order: it had no count, and gets one that is not below those of the order and not above the next one's by more than one.
-use Prim.Native.Nat.{ℕ, zero, suc, _+_, _≤_, _<_}
+use Prim.Native.Nat.{ℕ, _+_, _≤_, _<_}
 use native.Mathlib.Omega.{arith}
 use native.Mathlib.Decide.{ℕ-discrete}
 use mathlib.Core.Path.{_≡_, sym, ap, _∙_}
 use mathlib.Core.Logic.{_⊎_, inl, inr}
-use mathlib.Core.Bool.{Bool, true, false, not}
+use mathlib.Core.Bool.{not}
 use mathlib.Core.List.{List}
 use lib.ListN.{length, getD, set}
 use lib.Seq.{getD-set-same, getD-set-other}
 use lib.Dec.{eqb}
 use borrow.Author.Tests.{eq-eqb, ne-eqb}
-use Rattle.search.specs.Below.{countBelow, bit, bit-le, count-same, count-bound}
+use Rattle.search.specs.Below.{count-bound}
+use Rattle.search.specs.Counting.{count-less, count-one-more}
 use Rattle.rows.specs.Numbers.{free}
 use Rattle.distances.specs.Distances.{Queue}
-
--- Counting all but one
-
--- where one fails, not all are counted
-count-less : (p : ℕ → Bool) (n v : ℕ) → v < n → p v ≡ false → countBelow p n < n
-unfolding countBelow
-count-less p zero v l e = absurd (omega arith)
-count-less p (suc n) v l e = go (ℕ-discrete v n) (count-less p n v)
-  where
-    go : Dec (v ≡ n) → (v < n → p v ≡ false → countBelow p n < n) → countBelow p n + bit (p n) < suc n
-    go (yes z) rec = rw (ap p (sym z) ∙ e) (let b = count-bound p n in omega arith)
-    go (no z) rec = let b = bit-le (p n) in let h = rec (omega arith) e in omega arith
-
--- one that fails now, and passes then
-count-one-more : (p q : ℕ → Bool) (n v : ℕ) → v < n → p v ≡ false → q v ≡ true → ((u : ℕ) → (u ≡ v → ⊥) → p u ≡ q u) → countBelow q n ≡ countBelow p n + 1
-unfolding countBelow
-count-one-more p q zero v l e f same = absurd (omega arith)
-count-one-more p q (suc n) v l e f same = go (ℕ-discrete v n) (count-one-more p q n v)
-  where
-    go : Dec (v ≡ n) → (v < n → p v ≡ false → q v ≡ true → ((u : ℕ) → (u ≡ v → ⊥) → p u ≡ q u) → countBelow q n ≡ countBelow p n + 1) → countBelow q n + bit (q n) ≡ countBelow p n + bit (p n) + 1
-    go (yes z) rec = rw (ap p (sym z) ∙ e, ap q (sym z) ∙ f) (let s = count-same p q n (λ u k. same u (λ w. omega arith)) in omega arith)
-    go (no z) rec = rw (same n (λ w. z (sym w))) (let h = rec (omega arith) e f same in omega arith)
 
 module _ {n head tail : ℕ} {left order : List ℕ} (q : Queue n head tail left order) where
   -- the order is no longer than the row
@@ -80,7 +59,7 @@ module _ {n head tail : ℕ} {left order : List ℕ} (q : Queue n head tail left
       queue-more most above close = record {
         counted =
             count-one-more (λ u. not (free left u)) (λ u. not (free left′ u)) n v l (ap not (eq-eqb (getD left v 0) 65535 none))
-            (ap not (ne-eqb (getD left′ v 0) 65535 (λ z. let e = its-count in let m = queue-most in omega arith))) (λ u z. ap (λ (y : ℕ). not (eqb y 65535)) (sym (other-count u z)))
+            (ap not (ne-eqb (getD left′ v 0) 65535 (λ z. let e = its-count in let m = queue-most in omega arith))) (λ u h z. ap (λ (y : ℕ). not (eqb y 65535)) (sym (other-count u z)))
             ∙ ap (λ (y : ℕ). y + 1) (q .counted);
         inside = λ i h. inside-more i (split i h);
         few = λ i h. few-more i (split i h);

@@ -2,7 +2,6 @@
 use Prim.Native.Nat.{ℕ, suc, _+_, _-_, _≤_, _<_}
 use native.Mathlib.Omega.{arith}
 use native.Mathlib.Decide.{ℕ-discrete, decLt}
-use native.Mathlib.Nat.{zero-add}
 use mathlib.Core.Path.{_≡_, refl, sym, ap, subst, _∙_}
 use mathlib.Core.Logic.{_⊎_, inl, inr}
 use mathlib.Core.Bool.{not}
@@ -10,7 +9,7 @@ use mathlib.Core.List.{List}
 use lib.ListN.{length, getD, set}
 use lib.Seq.{getD-set-same, getD-set-other}
 use borrow.Author.Tests.{eq-eqb, ne-eqb, eqb-false}
-use Rattle.search.specs.Below.{countBelow, count-stays}
+use Rattle.search.specs.Counting.{count-none}
 use Rattle.rows.specs.Rows.{RowIs}
 use Rattle.rows.specs.Numbers.{free}
 use Rattle.rows.specs.Filling.{length-setIf}
@@ -35,10 +34,9 @@ reached-cases {v} {count} {tail} {next} {left} {order} {left′} {order′} r = 
 -- The start
 
 pub begun-none : {n : ℕ} {marks left order : List ℕ} → RowIs left n (λ v. 65535) → Begun n marks 0 left order 0
-unfolding countBelow
 begun-none {n} {marks} {left} {order} clear = record {
   queue = record {
-    counted = subst (λ (k : ℕ). countBelow (λ v. not (free left v)) k ≡ 0) (zero-add n) (count-stays (λ v. not (free left v)) 0 n (λ j l k. ap not (eq-eqb (getD left j 0) 65535 (clear j (omega arith)))));
+    counted = count-none (λ v. not (free left v)) n (λ j l. ap not (eq-eqb (getD left j 0) 65535 (clear j l)));
     inside = λ i l. absurd (omega arith);
     few = λ i l. absurd (omega arith);
     found = λ v l placed. absurd (placed (clear v l));

@@ -31,6 +31,7 @@ use refusal::Numbers;
 use ruin::list_way_to_ruin;
 use run::Run;
 use valuing::value_chart;
+use valuing::value_plain;
 use weighing::weigh_chart;
 use writing::write_plate;
 
@@ -45,6 +46,19 @@ pub extern "C" fn dushemqa_value(
     ensures { λ r. ⌜ ValuedAs (now (text .entry)) (now (values .entry)) (now (values .exit)) (now (choices .entry)) (now (choices .exit)) (now (steps .entry)) (now (steps .exit)) r ⌝ }
 {
     valued_numbers(value_chart(text, values, choices, steps))
+}
+
+// Valuing by the plain solver.
+#[no_mangle]
+pub extern "C" fn dushemqa_value_plain(
+    text: &[u8],
+    values: &mut [u16],
+    choices: &mut [u16],
+    steps: &mut [u16],
+) -> ValuedNumbers
+    ensures { λ r. ⌜ ValuedAs (now (text .entry)) (now (values .entry)) (now (values .exit)) (now (choices .entry)) (now (choices .exit)) (now (steps .entry)) (now (steps .exit)) r ⌝ }
+{
+    valued_numbers(value_plain(text, values, choices, steps))
 }
 
 // Writing.

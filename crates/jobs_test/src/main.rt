@@ -1,7 +1,7 @@
 // Asks the jobs about charts, plates, steps and rows of choices, good and bad, and writes what each answers and what the case is.
 // `stdin` has the cases, `stdout` what the documents say of each. The first letter of a case's name is its job: `E` examines a chart, `C`
-// is Checking, `R` Reading, `W` the program's answer, `S` a step of a run, `D` Comparing, `G` Listing, `P` the way to ruin and `H` a step of a
-// house.
+// is Checking, `R` Reading, `W` the program's answer, `S` a step of a run, `D` Comparing, `G` Listing, `P` the way to ruin, `H` a step of a
+// house and `V` Valuing, the filed way and the plain one.
 ghost use Rattle.cases.specs.CaseLaws.{Ordered};
 ghost use lib.ListN.{length};
 use crate::houses::Lanes;
@@ -15,6 +15,7 @@ mod houses;
 mod plates;
 mod runs;
 mod sheets;
+mod values;
 mod ways;
 mod writer;
 
@@ -42,7 +43,7 @@ fn main() {
     sheets::longest();
 }
 
-// The cases of the input, of which there are fewer than 1,000.
+// The cases of the input, of which there are fewer than 2,000.
 fn cases(input: &[u8]) {
     let mut at: usize = 0;
     let mut held = Held {
@@ -50,7 +51,7 @@ fn cases(input: &[u8]) {
         lanes: houses::empty(),
     };
     let mut k: usize = 0;
-    while k < 1000 {
+    while k < 2000 {
         let next = show_case(input, case_at(input, at), held);
         at = next.at;
         held = next.held;
@@ -105,6 +106,10 @@ fn show(name: &[u8], chart: &[u8], plate: &[u8], words: &[u8], held: Held) -> He
     }
     if job == b'P' {
         ways::list(chart, plate, words, &name[1..]);
+        return held;
+    }
+    if job == b'V' {
+        values::show(chart, words, &name[1..]);
         return held;
     }
     if job == b'H' {

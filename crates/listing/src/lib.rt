@@ -3,11 +3,11 @@ ghost use Rattle.rows.specs.Rows.{ChartRows};
 ghost use Rattle.listing.specs.Listing.{ListedIs, RowsListed};
 use chart::Examination;
 use decode::load;
+use filed::solve_filed;
 use good_moves::pick_good;
 use refusal::Refusal;
 use rows::Chart;
 use sheet_lines::write_lines;
-use solver::solve;
 
 // What Listing answers: the count of lines, or a refusal: the chart's, or 10 for a buffer that the lines do not fit.
 pub enum Listed {
@@ -62,7 +62,7 @@ fn list_rows(
 {
     let mut values = [0u16; Chart::POSITIONS];
     let mut steps = [0u16; Chart::POSITIONS];
-    solve(
+    solve_filed(
         n,
         m,
         owners,

@@ -37,6 +37,7 @@ use reading::read_plate;
 use refusal::Numbers;
 use valuing::Valued;
 use valuing::value_chart;
+use valuing::value_plain;
 use weighing::Weighed;
 use weighing::weigh_chart;
 use writing::Written;
@@ -106,7 +107,7 @@ fn same_row(table: &Table, column: usize, n: usize, row: &[u16; 512]) -> bool {
     true
 }
 
-fn same_rows(
+pub fn same_rows(
     table: &Table,
     n: usize,
     values: &[u16; 512],
@@ -181,20 +182,27 @@ fn compare_jobs(chart: &Chart, table: &Table, text: &[u8], seed: &mut usize, tal
     compare_sheets(chart, table, text, tally);
 }
 
-// Valuing: three rows and the rounds.
+// Valuing, the filed way and the plain one: three rows and the rounds.
 fn compare_values(chart: &Chart, table: &Table, text: &[u8], tally: &mut Tally) {
+    let filed = same_values(false, chart, table, text);
+    expect(filed, b"valuing", text, tally);
+    let plain = same_values(true, chart, table, text);
+    expect(plain, b"valuing the plain way", text, tally);
+}
+
+fn same_values(plain: bool, chart: &Chart, table: &Table, text: &[u8]) -> bool {
     let n = positions(chart);
     let mut values = [4660u16; 512];
     let mut choices = [4660u16; 512];
     let mut steps = [4660u16; 512];
-    let rounds = rounds_of(value_chart(text, &mut values, &mut choices, &mut steps));
+    let answer = if plain {
+        value_plain(text, &mut values, &mut choices, &mut steps)
+    } else {
+        value_chart(text, &mut values, &mut choices, &mut steps)
+    };
+    let rounds = rounds_of(answer);
     let same = same_rows(table, n, &values, &choices, &steps);
-    expect(
-        same & (rounds == get(table, HEADER, 0)),
-        b"valuing",
-        text,
-        tally,
-    );
+    same & (rounds == get(table, HEADER, 0))
 }
 
 // The rounds, or a number that no chart has.

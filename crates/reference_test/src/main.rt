@@ -1,8 +1,8 @@
 // Holds the library's answers against another implementation of document 01's definitions, on every chart of one and two positions and
 // on pseudo-random ones up to the largest size. It writes what was compared, a line for each kind of chart, and each comparison that
 // fails with its chart. Some kinds come again with marks left blank, by draws of their own: the numbers must be the same. Then come charts
-// with positions of rest, whose count stands in the line, runs whose texts change, ways to ruin, and houses of lanes. Nothing but the jobs that
-// are compared is shared with the library.
+// with positions of rest, whose count stands in the line, runs whose texts change, ways to ruin, houses of lanes, and Valuing by the filed way and
+// the plain one. Nothing but the jobs that are compared is shared with the library.
 use crate::compare::RESTS;
 use crate::compare::Tally;
 use crate::compare::compare_chart;
@@ -16,6 +16,7 @@ use crate::reports::Card;
 use crate::reports::compare_run;
 use crate::sheet::RIGHT;
 use crate::sheet::cell;
+use crate::values::compare_both;
 use crate::ways::compare_ways;
 
 mod checker;
@@ -28,6 +29,7 @@ mod plays;
 mod reports;
 mod sheet;
 mod text;
+mod values;
 mod ways;
 
 fn main() {
@@ -56,6 +58,7 @@ fn main() {
     some_swapped();
     some_ruined();
     some_housed();
+    some_valued();
 }
 
 // Charts with positions of rest. By the numbers come two of one position and four of two that have no move: they are left out. Of three
@@ -153,30 +156,79 @@ fn some_ruined() {
         1,
         b"ways to ruin of 0, 1 and more disturbances, decided by moves, by positions; refused for the chart, with 10 for the row, 12, 13, 19 and 10 for the buffer; unsafe plays found, lines of the longest way\n",
     );
-    ruins(b"every chart of 1 position", 0, 6);
-    ruins(b"every chart of 1 position, of rest", 10, 4);
-    ruins(b"every chart of 2 positions", 1, 900);
-    ruins(b"every chart of 2 positions, some of rest", 11, 544);
-    ruins(b"512 positions, disturbances downward", 2, 1);
-    ruins(b"512 positions, lanes downward", 3, 1);
-    ruins(b"512 positions, disturbances downward, all of rest", 12, 1);
-    ruins(b"3 positions", 9, 500);
-    ruins(b"3 positions, some of rest", 19, 500);
-    ruins(b"3 to 8 positions", 4, 500);
-    ruins(b"3 to 8 positions, some of rest", 14, 500);
-    ruins(b"5 to 10 positions, targets near, some of rest", 13, 500);
+    asked(b"every chart of 1 position", 0, 6, false);
+    asked(b"every chart of 1 position, of rest", 10, 4, false);
+    asked(b"every chart of 2 positions", 1, 900, false);
+    asked(b"every chart of 2 positions, some of rest", 11, 544, false);
+    asked(b"512 positions, disturbances downward", 2, 1, false);
+    asked(b"512 positions, lanes downward", 3, 1, false);
+    asked(
+        b"512 positions, disturbances downward, all of rest",
+        12,
+        1,
+        false,
+    );
+    asked(b"3 positions", 9, 500, false);
+    asked(b"3 positions, some of rest", 19, 500, false);
+    asked(b"3 to 8 positions", 4, 500, false);
+    asked(b"3 to 8 positions, some of rest", 14, 500, false);
+    asked(
+        b"5 to 10 positions, targets near, some of rest",
+        13,
+        500,
+        false,
+    );
 }
 
-// Charts of a kind, by draws of their own.
-fn ruins(name: &[u8], kind: usize, charts: usize) {
+// Valuing both ways, of four questions about each chart.
+fn some_valued() {
+    io::write_all(
+        1,
+        b"valued the filed way and the plain one: questions, positions, rounds; refused for the chart and with 10\n",
+    );
+    asked(b"every chart of 1 position", 0, 6, true);
+    asked(b"every chart of 1 position, of rest", 10, 4, true);
+    asked(b"every chart of 2 positions", 1, 900, true);
+    asked(b"every chart of 2 positions, some of rest", 11, 544, true);
+    asked(b"512 positions, disturbances downward", 2, 1, true);
+    asked(b"512 positions, lanes downward", 3, 1, true);
+    asked(b"3 positions", 9, 500, true);
+    asked(b"3 positions, some of rest", 19, 500, true);
+    asked(b"3 to 8 positions", 4, 500, true);
+    asked(b"3 to 8 positions, some of rest", 14, 500, true);
+    asked(b"20 to 59 positions", 5, 60, true);
+    asked(
+        b"20 to 59 positions, targets near, some of rest",
+        16,
+        60,
+        true,
+    );
+    asked(b"512 positions, 4,096 moves", 7, 20, true);
+    asked(b"512 positions, 4,096 moves, some of rest", 17, 20, true);
+    asked(b"512 positions, targets near", 8, 20, true);
+}
+
+// Questions about charts of a kind, by draws of their own: of Valuing both ways, or of the way to ruin.
+fn asked(name: &[u8], kind: usize, charts: usize, valued: bool) {
     let mut tally = [0usize; 19];
-    let mut seed = 6;
+    let mut seed = if valued { 8 } else { 6 };
     let mut i = 0;
     while i < charts {
-        compare_ways(kind, i, &mut seed, &mut tally);
+        if valued {
+            compare_both(kind, i, &mut seed, &mut tally);
+        } else {
+            compare_ways(kind, i, &mut seed, &mut tally);
+        }
         i += 1;
     }
-    report(&tally, ways::COUNTED);
+    report(
+        &tally,
+        if valued {
+            values::COUNTED
+        } else {
+            ways::COUNTED
+        },
+    );
     io::write_all(1, name);
     report_count(b", mismatches: ", tally[17]);
     io::write_all(1, b"\n");

@@ -77,6 +77,38 @@ pub fn write_chart(page: &mut Page, chart: &Chart) -> usize {
     lines % 16384 * 12
 }
 
+// A text as it is lent: its length, and the refusal that its damage brings, 0 for none, with its line.
+pub struct Damaged {
+    pub size: usize,
+    pub number: usize,
+    pub line: usize,
+}
+
+// Writes a chart's text, with a byte more by damage 0, a line more by 1, and by 2 a letter that no line has at the line; whole by any other.
+pub fn write_damaged(page: &mut Page, chart: &Chart, damage: usize, at: usize) -> Damaged {
+    let size = write_chart(page, chart) % 65536;
+    if damage == 2 {
+        page[at % 5000 * 12] = b'X';
+    }
+    let added = match damage {
+        0 => 1,
+        1 => 12,
+        _ => 0,
+    };
+    // No chart has more than 55,308 bytes.
+    let number = match damage {
+        0 => 1,
+        1 => if size < 55308 { 4 } else { 1 },
+        2 => 2,
+        _ => 0,
+    };
+    Damaged {
+        size: size + added % 16,
+        number,
+        line: if damage == 2 { at } else { 0 },
+    }
+}
+
 fn plate_line(page: &mut Page, table: &Table, v: usize) {
     let at = v % 1024 * 22 + 22;
     page[at] = b'V';

@@ -38,7 +38,7 @@ use crate::text::Page;
 use crate::text::lines_of;
 use crate::text::part;
 use crate::text::put_numbers;
-use crate::text::write_chart;
+use crate::text::write_damaged;
 use listing::Listed;
 use ruin::list_way_to_ruin;
 
@@ -134,32 +134,18 @@ fn draw_choices(
     x == NONE
 }
 
-// Writes the text. From question 16 on it may be damaged, by a byte or a line more or by a letter that no line has, and the row may be short.
+// Writes the text. From question 16 on it may be damaged, and the row may be short.
 fn draw_question(page: &mut Page, chart: &Chart, k: usize, seed: &mut usize) -> Question {
     let n = positions(chart) % 1024;
-    let size = write_chart(page, chart);
     let damage = if k < 16 { 3 } else { below(seed, 16) };
     let at = below(seed, lines_of(chart));
     let short = (16 <= k) & (below(seed, 3) == 0);
     let some = below(seed, n + 1);
-    if damage == 2 {
-        page[at % 5000 * 12] = b'X';
-    }
-    let number = match damage {
-        0 => 1,
-        1 => 4,
-        2 => 2,
-        _ => 0,
-    };
-    let added = match damage {
-        0 => 1,
-        1 => 12,
-        _ => 0,
-    };
+    let text = write_damaged(page, chart, damage, at);
     Question {
-        size: size % 65536 + added % 16,
-        number,
-        line: if damage == 2 { at } else { 0 },
+        size: text.size,
+        number: text.number,
+        line: text.line,
         choices: if short { some } else { 512 },
         position: draw_position(n, k, seed),
     }

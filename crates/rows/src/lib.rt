@@ -38,9 +38,17 @@ pub fn clear(n: usize, row: &mut [u16])
     requires { ⌜ n ≤ length (now row) ⌝ }
     ensures { λ _. ⌜ Filled (now (row .entry)) (now (row .exit)) n (λ v. 65535) ⌝ }
 {
+    fill(n, NONE, row);
+}
+
+// The first n numbers become x. The bound keeps them within the row.
+pub fn fill(n: usize, x: u16, row: &mut [u16])
+    requires { ⌜ n ≤ length (now row) ⌝ }
+    ensures { λ _. ⌜ Filled (now (row .entry)) (now (row .exit)) n (λ v. x) ⌝ }
+{
     let mut v: usize = 0;
     while v < n {
-        row[v] = NONE;
+        row[v] = x;
         v += 1;
     }
 }

@@ -118,3 +118,15 @@ pub some-more : (p : ℕ → Bool) (i k : ℕ) → someBelow p i ≡ true → so
 unfolding someBelow
 some-more p i zero h = let e : i + 0 ≡ i = omega arith in ap (someBelow p) e ∙ h
 some-more p i (suc k) h = let e : i + suc k ≡ suc (i + k) = omega arith in ap (someBelow p) e ∙ rw (some-more p i k h)
+
+-- where some passes, one can be named
+pub some-found : (p : ℕ → Bool) (n : ℕ) → someBelow p n ≡ true → (i : ℕ) × (i < n) × (p i ≡ true)
+unfolding someBelow
+some-found p zero e = let z : _≡_ {A = ℕ} 0 1 = cc in absurd (omega arith)
+some-found p (suc n) e = go (some-found p n) (p n) refl (someBelow p n) refl e
+  where
+    go : (someBelow p n ≡ true → (i : ℕ) × (i < n) × (p i ≡ true)) → (b : Bool) → p n ≡ b → (a : Bool) → someBelow p n ≡ a → (a || b) ≡ true
+        → (i : ℕ) × (i < suc n) × (p i ≡ true)
+    go rec true f a g e = (n, omega arith, f)
+    go rec false f true g e = let w = rec g in (w .0, omega (arith, w .1), w .2)
+    go rec false f false g e = let z : _≡_ {A = ℕ} 0 1 = cc in absurd (omega arith)

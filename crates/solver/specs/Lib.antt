@@ -1,3 +1,4 @@
 pub mod Solving
 pub mod SettleLaws
 pub mod SolveLaws
+pub mod OneSolution

@@ -1,4 +1,4 @@
-// The rounds of document 01, one after the other.
+// The rounds of document 01, one after the other, the plain way: each round walks all moves.
 ghost use Prim.Native.Nat.{_<_, _≤_};
 ghost use lib.ListN.{length};
 ghost use Rattle.rows.specs.Rows.{Within, ChartRows};

@@ -1,4 +1,5 @@
 pub mod Valuing
 pub mod ValuedMeans
 pub mod ValuingLaws
+pub mod Columns
 pub mod ValuedMeansHold

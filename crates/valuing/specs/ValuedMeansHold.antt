@@ -1,6 +1,6 @@
 -- The numbers that Valuing gives mean what document 01 says: read as values they are the rounds' columns, which the theory of the rounds
 -- shows to be the values and pairs, and the best choices of these values.
-use Prim.Native.Nat.{ℕ, _≤_}
+use Prim.Native.Nat.{ℕ}
 use native.Mathlib.Omega.{arith}
 use mathlib.Core.Path.{_≡_, refl, sym, ap, subst, subst₂, _∙_}
 use mathlib.Core.Bool.{Bool, true, false, cond, _&&_}
@@ -8,21 +8,18 @@ use mathlib.Core.List.{List}
 use lib.ListN.{length}
 use lib.Dec.{leb}
 use Rattle.rows.specs.FirstLine.{firstLineOf}
-use Rattle.rows.specs.FirstLineLaws.{first-line-same}
-use Rattle.rows.specs.Numbers.{valueOf, rowValue, Agree}
-use Rattle.rows.specs.NumberLaws.{Fits, value-of-number}
+use Rattle.rows.specs.Numbers.{rowValue, Agree}
 use Rattle.rows.specs.declared.Chart.{Chart}
+use Rattle.rows.specs.declared.FirstLine.{FirstLine}
 use Rattle.game.specs.Value.{Value, fin, ever, _≼_}
 use Rattle.game.specs.ValueLaws.{fin-is-not-ever}
 use Rattle.game.specs.Arena.{Arena, Owner, controller, environment, nobody, WellFormed, size, ownerAt, Meant}
-use Rattle.game.specs.Play.{LegalAs}
 use Rattle.game.specs.PlayLaws.{meant-inside}
 use Rattle.game.specs.Worth.{IsValue}
 use Rattle.game.specs.Table.{Placement, unplaced, placed, placementAt, table, placedValue, placedStep, roundValue, roundStep}
 use Rattle.game.specs.TableIsRounds.{rows-are-the-rounds, rows-have-the-never-placed}
 use Rattle.game.specs.RoundValues.{rounds-give-the-values}
-use Rattle.game.specs.Best.{bestAt}
-use Rattle.game.specs.BestLaws.{best-is-the-choice, best-is-legal}
+use Rattle.game.specs.BestLaws.{best-is-the-choice}
 use Rattle.game.specs.Choice.{IsBest, IsChoiceAs}
 use Rattle.game.specs.FirstLine.{pairCount}
 use Rattle.chart.specs.Meaning.{arenaOf}
@@ -32,7 +29,7 @@ use Rattle.chart.specs.declared.Examination.{Examination}
 use Rattle.chart.specs.declared.Examination.the-variants.{Accepted, Refused}
 use Rattle.refusal.specs.declared.Refusal.the-variants.{Short}
 use Rattle.valuing.specs.Valuing.{valued, valuedBy, ValuedIs}
-use Rattle.valuing.specs.ValuingLaws.{round-value-fits, round-step-fits}
+use Rattle.valuing.specs.Columns.{value-column, choice-column, step-column, first-line-column}
 use Rattle.valuing.specs.ValuedMeans.{PairIs, ValuedMeans}
 use Rattle.valuing.specs.declared.Valued.the-variants.{Rounds, Refused as Turned}
 
@@ -75,19 +72,13 @@ module _ (a : Arena) (wf : WellFormed a) (f g : ℕ → Value) (same : Agree (si
   choice-carries environment v x e = e
   choice-carries nobody v x e = e
 
--- a legal choice is a position, so its number stands for it
-legal-fits : (a : Arena) → WellFormed a → size a ≤ 512 → (o : Owner) (v : ℕ) (x : Value) → LegalAs o a v x → Fits x
-legal-fits a wf few controller v x (w, e, m) = subst Fits (sym e) (omega (arith, meant-inside a wf v w m))
-legal-fits a wf few environment v x e = subst Fits (sym e) tt
-legal-fits a wf few nobody v x e = subst Fits (sym e) tt
-
 -- what an answer with rounds says: the chart was accepted, and the rounds are counted
-record Took (text : List ℕ) (k : ℕ) : Type 0 where
-  chart : Chart
-  taken : examined text ≡ Accepted chart
-  counted : k ≡ pairCount (roundValue (arenaOf text)) (roundStep (arenaOf text)) (size (arenaOf text))
+pub record Took (text : List ℕ) (k : ℕ) : Type 0 where
+  pub chart : Chart
+  pub taken : examined text ≡ Accepted chart
+  pub counted : k ≡ pairCount (roundValue (arenaOf text)) (roundStep (arenaOf text)) (size (arenaOf text))
 
-valuing-took : (text : List ℕ) (values choices steps k : ℕ) → Rounds k ≡ valued text values choices steps → Took text k
+pub valuing-took : (text : List ℕ) (values choices steps k : ℕ) → Rounds k ≡ valued text values choices steps → Took text k
 unfolding valued valuedBy
 valuing-took text values choices steps k e = go (examined text) refl e
   where
@@ -102,29 +93,21 @@ valuing-took text values choices steps k e = go (examined text) refl e
     go (Refused r) t e = let z : _≡_ {A = ℕ} 0 1 = cc in absurd (omega arith)
     go (Accepted chart) t e = both chart t (leb (chart .positions) values && (leb (chart .positions) choices && leb (chart .positions) steps)) e
 
-counted-from : (n : ℕ) (f g s t : ℕ → Value) → Agree n f g → Agree n s t → pairCount f s n ≡ pairCount g t n
-unfolding firstLineOf
-counted-from n f g s t p q = first-line-same {r = firstLineOf n f s} p q (record { rounds = refl; highest-value = refl; evers = refl }) .rounds
-
 pub valued-means : {text values values′ choices choices′ steps steps′ : List ℕ} {k : ℕ} → ValuedIs text values values′ choices choices′ steps steps′ (Rounds k)
     → ValuedMeans text values′ choices′ steps′ k
+unfolding firstLineOf
 valued-means {text} {values} {values′} {choices} {choices′} {steps} {steps′} {k} is =
     let a = arenaOf text in
-    let n = size (arenaOf text) in
     let t = valuing-took text (length values) (length choices) (length steps) k (is .answer) in
     let wf = accepted-chartable text (t .chart) (t .taken) .well-formed in
     let few = accepted-chartable text (t .chart) (t .taken) .few-positions in
     let rows = is .taken k refl in
-    let value-at : Agree n (rowValue values′) (roundValue a) = λ v l. ap valueOf (rows .value .row v l) ∙ value-of-number (roundValue a v) (round-value-fits a wf few v) in
-    let step-at : Agree n (rowValue steps′) (roundStep a) = λ v l. ap valueOf (rows .step .row v l) ∙ value-of-number (roundStep a v) (round-step-fits a wf few v) in
-    let choice-at : Agree n (rowValue choices′) (bestAt a (roundValue a)) = λ v l.
-    ap valueOf (rows .choice .row v l)
-    ∙ value-of-number (bestAt a (roundValue a) v) (legal-fits a wf few (ownerAt a v) v (bestAt a (roundValue a) v) (best-is-legal a (roundValue a) wf v l)) in
+    let value-at = value-column a wf few rows in
     record {
       value = λ v l. subst (IsValue a v) (sym (value-at v l)) (rounds-give-the-values a wf v l);
       choice = λ v l.
           choice-carries a wf (roundValue a) (rowValue values′) (λ u m. sym (value-at u m)) (ownerAt a v) v (rowValue choices′ v)
-          (subst (IsChoiceAs (ownerAt a v) a (roundValue a) v) (sym (choice-at v l)) (best-is-the-choice a (roundValue a) wf v l));
-      pair = λ v l. pair-is a wf v (rowValue values′ v) (rowValue steps′ v) (value-at v l) (step-at v l);
-      counted = t .counted ∙ counted-from n (roundValue a) (rowValue values′) (roundStep a) (rowValue steps′) (λ v l. sym (value-at v l)) (λ v l. sym (step-at v l));
+          (subst (IsChoiceAs (ownerAt a v) a (roundValue a) v) (sym (choice-column a wf few rows v l)) (best-is-the-choice a (roundValue a) wf v l));
+      pair = λ v l. pair-is a wf v (rowValue values′ v) (rowValue steps′ v) (value-at v l) (step-column a wf few rows v l);
+      counted = t .counted ∙ sym (ap (λ (h : FirstLine). h .rounds) (first-line-column a wf few rows));
     }

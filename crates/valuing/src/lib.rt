@@ -2,10 +2,12 @@
 ghost use Prim.Native.Nat.{_<_, _≤_};
 ghost use lib.ListN.{length};
 ghost use Rattle.rows.specs.Rows.{ChartRows};
+ghost use Rattle.solver.specs.Solving.{Solved};
 ghost use Rattle.valuing.specs.Valuing.{RowsValued, ValuedIs};
 use chart::Examination;
 use choice::choose;
 use decode::load;
+use filed::solve_filed;
 use first_line::count_first_line;
 use refusal::Misdrawn;
 use refusal::Refusal;
@@ -21,6 +23,31 @@ pub enum Valued {
 
 // Values a chart into three lent rows. What lies past the last position's number stays, and on a refusal everything does.
 pub fn value_chart(
+    text: &[u8],
+    values: &mut [u16],
+    choices: &mut [u16],
+    steps: &mut [u16],
+) -> Valued
+    ensures { λ r. ⌜ ValuedIs (now (text .entry)) (now (values .entry)) (now (values .exit)) (now (choices .entry)) (now (choices .exit)) (now (steps .entry)) (now (steps .exit)) r ⌝ }
+{
+    value_by(false, text, values, choices, steps)
+}
+
+// The same by the plain solver, which walks all moves in every round.
+pub fn value_plain(
+    text: &[u8],
+    values: &mut [u16],
+    choices: &mut [u16],
+    steps: &mut [u16],
+) -> Valued
+    ensures { λ r. ⌜ ValuedIs (now (text .entry)) (now (values .entry)) (now (values .exit)) (now (choices .entry)) (now (choices .exit)) (now (steps .entry)) (now (steps .exit)) r ⌝ }
+{
+    value_by(true, text, values, choices, steps)
+}
+
+// Both of these: the job, by the solver that is asked for.
+fn value_by(
+    plain: bool,
     text: &[u8],
     values: &mut [u16],
     choices: &mut [u16],
@@ -55,6 +82,7 @@ pub fn value_chart(
                 return Valued::Refused(Refusal::Short);
             }
             let s = value_rows(
+                plain,
                 n,
                 m,
                 &owners,
@@ -71,9 +99,10 @@ pub fn value_chart(
     }
 }
 
-// Values decoded rows, and counts the first line's numbers. The rows hold a chart, as those that `load` fills do, and there is room
-// for n numbers.
+// Values decoded rows, by the plain solver or the filed one, and counts the first line's numbers. The rows hold a chart, as those that
+// `load` fills do, and there is room for n numbers.
 pub fn value_rows(
+    plain: bool,
     n: usize,
     m: usize,
     owners: &[u8],
@@ -88,7 +117,30 @@ pub fn value_rows(
     requires { ⌜ ChartRows n m (now owners) (now marks) (now costs) (now froms) (now tos) × (n ≤ length (now values)) × (n ≤ length (now choices)) × (n ≤ length (now steps)) ⌝ }
     ensures { λ r. ⌜ RowsValued n m (now (owners .entry)) (now (marks .entry)) (now (costs .entry)) (now (froms .entry)) (now (tos .entry)) (now (values .entry)) (now (values .exit)) (now (choices .entry)) (now (choices .exit)) (now (steps .entry)) (now (steps .exit)) r ⌝ }
 {
-    solve(n, m, owners, marks, costs, froms, tos, values, steps);
+    solve_by(plain, n, m, owners, marks, costs, froms, tos, values, steps);
     choose(n, m, owners, costs, froms, tos, values, choices);
     count_first_line(n, values, steps)
+}
+
+// Values and steps by the solver that is asked for. Both promise the same rows.
+fn solve_by(
+    plain: bool,
+    n: usize,
+    m: usize,
+    owners: &[u8],
+    marks: &[u8],
+    costs: &[u8],
+    froms: &[u16],
+    tos: &[u16],
+    values: &mut [u16],
+    steps: &mut [u16],
+)
+    requires { ⌜ ChartRows n m (now owners) (now marks) (now costs) (now froms) (now tos) × (n ≤ length (now values)) × (n ≤ length (now steps)) ⌝ }
+    ensures { λ _. ⌜ Solved n m (now (owners .entry)) (now (marks .entry)) (now (costs .entry)) (now (froms .entry)) (now (tos .entry)) (now (values .entry)) (now (steps .entry)) (now (values .exit)) (now (steps .exit)) ⌝ }
+{
+    if plain {
+        solve(n, m, owners, marks, costs, froms, tos, values, steps);
+    } else {
+        solve_filed(n, m, owners, marks, costs, froms, tos, values, steps);
+    }
 }

@@ -1,25 +1,25 @@
--- From words to an accepted text: a line with the words of two numbers reads as them, so its finding is clean; ranks that rise are moves
--- that rise; and a position that is none of rest is passed only by a meant move from it.
-use Prim.Native.Nat.{ℕ, _+_, _-_, _*_, _%_, _≤_, _<_}
+-- From words to an accepted text: a line with the words of two numbers reads as them, so it stands; ranks that rise are moves that rise; and
+-- where each position has the kinds of moves that it needs and may have, a chart whose lines stand is good.
+use Prim.Native.Nat.{ℕ, _+_, _-_, _*_, _/_, _%_, _≤_, _<_}
 use native.Mathlib.Omega.{arith}
-use native.Mathlib.Decide.{decLe}
-use native.Mathlib.Nat.{eq-or-lt-of-le}
+use native.Mathlib.Decide.{decLe, ℕ-discrete}
 use native.Mathlib.Numerals.{add-one}
 use mathlib.Core.Path.{_≡_, refl, sym, ap, subst, _∙_}
-use mathlib.Core.Logic.{_⊎_, inl, inr, ⊎-elim}
+use mathlib.Core.Logic.{inl, inr, ⊎-elim}
 use mathlib.Core.Bool.{Bool, true, false, cond, not}
 use mathlib.Core.List.{List, [], _∷_}
-use lib.ListN.{length, getD, set}
+use lib.ListN.{length, getD, set, length-set}
 use lib.Seq.{getD-set-same, getD-set-other}
 use lib.Dec.{ltb, eqb}
 use borrow.Author.Count.{below-more}
-use borrow.Author.Tests.{ltb-true, ltb-false, eqb-true, eqb-false, eq-eqb, lt-ltb}
+use borrow.Author.Tests.{ltb-true, ltb-false, eqb-true, eq-eqb, lt-ltb}
 use Rattle.field.specs.Text.{fieldOf, five, fieldAt, placeByte, blankText}
 use Rattle.field.specs.Laws.{blank-reads}
 use Rattle.field.specs.declared.Field.{Field}
 use Rattle.field.specs.declared.Field.the-variants.{Number, Blank}
 use Rattle.game.specs.Arena.{Owner, controller, environment, nobody}
-use Rattle.rows.specs.Rows.{ownerNumber}
+use Rattle.rows.specs.Rows.{RowIs, Kept, ownerNumber}
+use Rattle.rows.specs.Filling.{filled-more, filled-same}
 use Rattle.rows.specs.declared.Chart.{Chart}
 use Rattle.spelling.specs.Words.{spelt}
 use Rattle.spelling.specs.WordLaws.{word-bytes, place-small, spelt-field, spelt-reads}
@@ -28,12 +28,13 @@ use Rattle.chart.specs.Meaning.{ownerOf, costOf}
 use Rattle.chart.specs.Refusals.{PositionLetter, MoveLetter}
 use Rattle.chart.specs.Examined.{above, rises, meantLine, meantIn, headerFormed, headerOf}
 use Rattle.chart.specs.Header.{WithinLimits, header-accepts}
-use Rattle.chart.specs.Accepted.{cost-small, meant-letter}
+use Rattle.chart.specs.Accepted.{cost-small}
 use Rattle.chart.specs.Good.{GoodPosition, GoodMove, header-form}
 use Rattle.chart.specs.Taken.{good-accepted}
 use Rattle.chart.specs.Lines.{Reads, number-again, reads-formed}
 use Rattle.chart.specs.declared.Examination.the-variants.{Accepted}
-use Rattle.walk.specs.Walked.{letterOf, markWord, LineWords, Tables, MoveStands, PositionsPassed, NextDue, Dues, dueAt, MovesPassed, Passed}
+use Rattle.walk.specs.Decoded.{MoveRows}
+use Rattle.walk.specs.Walked.{LineWords, openingOf, middleOf, closingOf, moveOpening, letterOf, markWord, LinesSpelt, Numbers, Tables, MoveStands, Kinds, KindsAllowed, MovesStand, PositionsPassed, Passed}
 
 -- a walk that stopped has not passed
 pub stopped : {A : Type 0} → false ≡ true → A
@@ -44,28 +45,20 @@ pub went-on : (b : Bool) → not b ≡ false → b ≡ true
 went-on true e = refl
 went-on false e = stopped (sym e)
 
--- the word of a number has three bytes
-spelt-small : (x : ℕ) → spelt x < 16777216
-unfolding spelt
-spelt-small x =
-    let c = place-small x 100 in
-    let d = place-small x 10 in
-    omega arith
-
 -- a byte by another name of its place
 byte : (text : List ℕ) (p q z : ℕ) → p ≡ q → getD text q 0 ≡ z → getD text p 0 ≡ z
 byte text p q z e h = ap (λ (k : ℕ). getD text k 0) e ∙ h
 
--- a line with the word of a number and the last three bytes of a field reads as them
+-- a line with the words of a number and the last three bytes of a field reads as them
 words-are : (text : List ℕ) (i letter x c d e : ℕ) (f : Field) → letter < 256 → x < 1000 → (c < 256) × (d < 256) × (e < 256) → fieldOf (32 ∷ 32 ∷ c ∷ d ∷ e ∷ []) ≡ f →
-    LineWords text (i * 12) letter (spelt x) (c + d * 256 + e * 65536) → Reads text i letter x f
-unfolding spelt letterAt firstAt secondAt endAt fieldAt five
+    LineWords text (i * 12) (openingOf letter x) (middleOf x) (closingOf (c + d * 256 + e * 65536)) → Reads text i letter x f
+unfolding spelt openingOf middleOf letterAt firstAt secondAt endAt fieldAt five
 words-are text i letter x c d e f l h small is w =
     let high = place-small x 100 in
     let low = place-small x 10 in
-    let one = word-bytes text (i * 12) _ letter 32 32 (placeByte x 100) (w .opening) (l, omega arith, omega arith, omega arith) (omega arith) in
-    let two = word-bytes text (i * 12 + 4) _ (placeByte x 10) (48 + x % 10) 32 32 (w .middle) (omega arith, omega arith, omega arith, omega arith) (omega arith) in
-    let three = word-bytes text (i * 12 + 8) _ c d e 10 (w .closing) (small .0, small .1, small .2, omega arith) (omega arith) in
+    let one = word-bytes text (i * 12) _ letter 32 32 (placeByte x 100) (w .opens) (l, omega arith, omega arith, omega arith) (omega arith) in
+    let two = word-bytes text (i * 12 + 4) _ (placeByte x 10) (48 + x % 10) 32 32 (w .goes-on) (omega arith, omega arith, omega arith, omega arith) (omega arith) in
+    let three = word-bytes text (i * 12 + 8) _ c d e 10 (w .closes) (small .0, small .1, small .2, omega arith) (omega arith) in
     let second : five text (i * 12 + 6) ≡ 32 ∷ 32 ∷ c ∷ d ∷ e ∷ [] =
     cc (
       byte text (i * 12 + 6) _ _ (omega arith) (two .2),
@@ -83,7 +76,8 @@ words-are text i letter x c d e f l h small is w =
     }
 
 -- so one with the words of two numbers
-pub words-read : (text : List ℕ) (i letter x y : ℕ) → letter < 256 → x < 1000 → y < 1000 → LineWords text (i * 12) letter (spelt x) (spelt y) → Reads text i letter x (Number y)
+pub words-read : (text : List ℕ) (i letter x y : ℕ) → letter < 256 → x < 1000 → y < 1000 → LineWords text (i * 12) (openingOf letter x) (middleOf x) (closingOf (spelt y)) →
+    Reads text i letter x (Number y)
 unfolding spelt
 words-read text i letter x y l h k w =
     let c = place-small y 100 in
@@ -122,15 +116,6 @@ owner-small controller = omega arith
 owner-small environment = omega arith
 owner-small nobody = omega arith
 
--- what bounds the numbers that the tests compare
-pub mark-word-fits : (word last : ℕ) → word ≡ markWord last → word < 16777216
-unfolding markWord
-mark-word-fits word last e = rw e (go (eqb last 32))
-  where
-    go : (b : Bool) → cond b 2105376 (spelt (last % 2)) < 16777216
-    go true = omega arith
-    go false = spelt-small (last % 2)
-
 -- the letter of a number is one of a position
 letter-of : (owner : ℕ) → PositionLetter (letterOf owner)
 unfolding letterOf
@@ -145,9 +130,6 @@ pub letter-fits : (letter owner : ℕ) → letter ≡ letterOf owner → letter 
 letter-fits letter owner e =
     ⊎-elim (λ p. omega (arith, e, p)) (⊎-elim (λ p. omega (arith, e, p)) (λ p. omega (arith, e, p))) (letter-of owner)
 
-pub cost-fits : (cost letter : ℕ) → cost ≡ costOf letter → cost ≤ 1
-cost-fits cost letter e = omega (arith, cost-small letter, e)
-
 rest-letter : (letter : ℕ) → ownerNumber (ownerOf letter) ≡ 2 → letter ≡ 82
 unfolding ownerOf
 rest-letter letter e = go (eqb letter 76) (eqb letter 82) refl refl
@@ -157,82 +139,76 @@ rest-letter letter e = go (eqb letter 76) (eqb letter 82) refl refl
     go false true u v = eqb-true letter 82 v
     go false false u v = let z : _≡_ {A = ℕ} 0 2 = simp (u, v) at e in absurd (omega arith)
 
--- what the tables of n positions hold at one of them
-module _ (text : List ℕ) (n : ℕ) (words owners : List ℕ) (tables : Tables text n words owners) where
-  pub table-word : (v : ℕ) → v < n → getD words v 0 < 16777216
-  table-word v h = rw (tables .word v h) (spelt-small v)
-
-  pub table-owner : (v : ℕ) → v < n → getD owners v 0 ≤ 2
-  table-owner v h = rw (tables .owner v h) (owner-small (ownerOf (letterAt text (v + 1))))
-
+-- what the rows of owners hold at a position
+module _ (text : List ℕ) (n : ℕ) (owners : List ℕ) (owner : RowIs owners n (λ v. ownerNumber (ownerOf (letterAt text (v + 1))))) where
   lane-owner : (v : ℕ) → v < n → letterAt text (v + 1) ≡ 76 → getD owners v 0 ≡ 1
   unfolding ownerOf
-  lane-owner v h e = tables .owner v h ∙ ap (λ (letter : ℕ). ownerNumber (ownerOf letter)) e
+  lane-owner v h e = owner v h ∙ ap (λ (letter : ℕ). ownerNumber (ownerOf letter)) e
 
   rest-owner : (v : ℕ) → v < n → letterAt text (v + 1) ≡ 82 → getD owners v 0 ≡ 2
   unfolding ownerOf
-  rest-owner v h e = tables .owner v h ∙ ap (λ (letter : ℕ). ownerNumber (ownerOf letter)) e
+  rest-owner v h e = owner v h ∙ ap (λ (letter : ℕ). ownerNumber (ownerOf letter)) e
 
-  owner-rest : (v : ℕ) → v < n → getD owners v 0 ≡ 2 → letterAt text (v + 1) ≡ 82
-  owner-rest v h e = rest-letter (letterAt text (v + 1)) (sym (tables .owner v h) ∙ e)
-
-  -- a line with the words of two positions is a move between them
-  pub move-stands : (line from to cost : ℕ) → from < n → to < n → cost ≡ costOf (letterAt text line) → (cost + getD owners from 0 ≡ 2 → ⊥) →
-      LineWords text (line * 12) (77 - 9 * cost) (getD words from 0) (getD words to 0) → MoveStands text n line from to
-  move-stands line from to cost f t is free w =
-      let few = tables .few in
-      let small = cost-fits cost (letterAt text line) is in
-      record {
-        from-position = f;
-        to-position = t;
-        letter = 77 - 9 * cost;
-        reads = words-read text line (77 - 9 * cost) from to (omega arith) (omega arith) (omega arith) (rw (tables .word from f, tables .word to t) at w);
-        allowed = go (decLe cost 0);
-        undisturbed = λ p q. free (omega (arith, lane-owner from f q));
-        unmeant = λ p q. free (omega (arith, rest-owner from f q));
-      }
+  other-owner : (v : ℕ) → v < n → (letterAt text (v + 1) ≡ 82 → ⊥) → getD owners v 0 ≤ 1
+  other-owner v h other = go (decLe (getD owners v 0) 1)
     where
-      go : Dec (cost ≤ 0) → MoveLetter (77 - 9 * cost)
-      go (yes l) = inl (omega arith)
-      go (no l) = inr (omega (arith, cost-fits cost (letterAt text line) is))
+      go : Dec (getD owners v 0 ≤ 1) → getD owners v 0 ≤ 1
+      go (yes l) = l
+      go (no l) =
+          let small : getD owners v 0 ≤ 2 = rw (owner v h) (owner-small (ownerOf (letterAt text (v + 1)))) in
+          absurd (other (rest-letter (letterAt text (v + 1)) (sym (owner v h) ∙ omega arith)))
 
--- the row of what is due, from its end on: one position more
-due-here : (owners : List ℕ) (n v next : ℕ) → v < n → NextDue owners n (v + 1) next → NextDue owners n v (dueAt (getD owners v 0) v next)
-unfolding dueAt
-due-here owners n v next h w = go (eqb (getD owners v 0) 2) refl
-  where
-    go : (b : Bool) → eqb (getD owners v 0) 2 ≡ b → NextDue owners n v (cond b next v)
-    go true e = record {
-      low = omega (arith, w .low);
-      high = w .high;
-      resting = λ u l k.
-          ⊎-elim (λ (same : v ≡ u). subst (λ (x : ℕ). getD owners x 0 ≡ 2) same (eqb-true (getD owners v 0) 2 e)) (λ more. w .resting u (omega arith) k) (eq-or-lt-of-le l);
-      needs = w .needs;
+-- how the moves of a cost from v open
+pub move-opens : (kind v cost : ℕ) → cost ≤ 1 → kind ≡ 2 * v + cost → moveOpening kind ≡ openingOf (77 - 9 * cost) v
+unfolding moveOpening
+move-opens kind v cost small e =
+    let bit : kind % 2 ≡ cost = omega arith in
+    let half : kind / 2 ≡ v = omega arith in
+    simp (bit, half)
+
+-- the words of one position more
+pub lines-more : {openings₀ openings middles₀ middles closings₀ closings : List ℕ} (v x : ℕ) → LinesSpelt v openings₀ openings middles₀ middles closings₀ closings → x ≡ spelt v →
+    2 * v + 1 < length openings₀ → v < length middles₀ → v < length closings₀ →
+    LinesSpelt (v + 1) openings₀ (set (set openings (2 * v) (x % 256 * 16777216 + 2105421)) (2 * v + 1) (x % 256 * 16777216 + 2105421 - 9))
+    middles₀ (set middles v (x / 256 + 538968064)) closings₀ (set closings v (x + 167772160))
+unfolding openingOf middleOf
+lines-more {openings₀} {openings} v x h e l k j =
+    let one = filled-more openings₀ openings (2 * v) (x % 256 * 16777216 + 2105421) moveOpening (h .opening) (omega arith) (rw (move-opens (2 * v) v 0 (omega arith) (omega arith), e) (omega arith)) in
+    let two = filled-more _ _ (2 * v + 1) (x % 256 * 16777216 + 2105421 - 9) moveOpening one l (rw (move-opens (2 * v + 1) v 1 (omega arith) refl, e) (omega arith)) in
+    record {
+      opening = filled-same _ _ _ _ moveOpening moveOpening (omega arith) (λ q m. refl) two;
+      middle = filled-more _ _ v _ _ (h .middle) k (rw e refl);
+      closing = filled-more _ _ v _ _ (h .closing) j (rw e refl);
     }
-    go false e = record { low = omega arith; high = omega arith; resting = λ u l k. absurd (omega arith); needs = λ _. eqb-false (getD owners v 0) 2 e }
 
--- what is due from each position from v on
-abbrev pub DuesFrom : List ℕ → ℕ → List ℕ → ℕ → Type 0
-DuesFrom owners n dues v = (u : ℕ) → v ≤ u → u ≤ n → NextDue owners n u (getD dues u 0)
+-- a position in a slot
+pub numbers-more : (numbers : List ℕ) (n slot v : ℕ) → Numbers numbers n → slot < 1024 → v < n → Numbers (set numbers slot v) n
+numbers-more numbers n slot v h l m = record { below = λ k q. go k q (ℕ-discrete k slot); slots = simp length-set (h .slots) }
+  where
+    go : (k : ℕ) → k < 1024 → Dec (k ≡ slot) → getD (set numbers slot v) k 0 < n
+    go k q (yes e) = rw (e, getD-set-same numbers slot v 0 (omega (arith, h .slots))) m
+    go k q (no e) = rw (getD-set-other numbers slot k v 0 e) (h .below k q)
 
-pub dues-start : (owners dues : List ℕ) (n : ℕ) → n < length dues → DuesFrom owners n (set dues n n) n
-dues-start owners dues n h u l m =
-    let same : n ≡ u = omega arith in
-    subst (λ (y : ℕ). NextDue owners n y (getD (set dues n n) y 0)) same
-    (rw (getD-set-same dues n n 0 h) (record { low = omega arith; high = omega arith; resting = λ u l k. absurd (omega arith); needs = λ l. absurd (omega arith) }))
+-- another letter in the place of the M
+module _ (opening v : ℕ) (e : opening ≡ moveOpening (2 * v)) where
+  meant-opening : opening ≡ openingOf 77 v
+  meant-opening = e ∙ move-opens (2 * v) v 0 (omega arith) (omega arith)
 
-pub dues-more : (owners dues : List ℕ) (n v x : ℕ) → v < n → v < length dues → DuesFrom owners n dues (v + 1) → x ≡ dueAt (getD owners v 0) v (getD dues (v + 1) 0) → DuesFrom owners n (set dues v x) v
-dues-more owners dues n v x h k rest e u l m =
-    ⊎-elim
-    (λ (same : v ≡ u).
-    subst (λ (y : ℕ). NextDue owners n y (getD (set dues v x) y 0)) same
-    (rw (getD-set-same dues v x 0 k, e) (due-here owners n v (getD dues (v + 1) 0) h (rest (v + 1) (omega arith) (omega arith)))))
-    (λ more. rw (getD-set-other dues v u x 0 (λ q. omega arith)) (rest u (omega arith) m))
-    (eq-or-lt-of-le l)
+  pub letter-out : 77 ≤ opening
+  unfolding openingOf
+  letter-out = omega (arith, meant-opening)
+
+  pub letter-in : (letter : ℕ) → opening - 77 + letter ≡ openingOf letter v
+  unfolding openingOf
+  letter-in letter = omega (arith, meant-opening)
+
+  pub letter-room : (letter : ℕ) → letter < 256 → opening - 77 + letter < 4294967296
+  unfolding openingOf
+  letter-room letter h = omega (arith, meant-opening)
 
 -- a line with the words of position v and of a mark is that position's
 pub position-stands : (text : List ℕ) (v owner last : ℕ) → v < 1000 →
-    LineWords text ((v + 1) * 12) (letterOf owner) (spelt v) (markWord last) → PositionStands text v (last % 2)
+    LineWords text ((v + 1) * 12) (openingOf (letterOf owner) v) (middleOf v) (markWord last) → PositionStands text v (last % 2)
 unfolding markWord markOf blankText
 position-stands text v owner last h w = go (eqb last 32) refl
   where
@@ -245,7 +221,7 @@ position-stands text v owner last h w = go (eqb last 32) refl
     go : (b : Bool) → eqb last 32 ≡ b → PositionStands text v (last % 2)
     go true e =
         let space : last ≡ 32 = eqb-true last 32 e in
-        let words : LineWords text ((v + 1) * 12) letter (spelt v) (32 + 32 * 256 + 32 * 65536) = simp e at w in
+        let words : LineWords text ((v + 1) * 12) (openingOf letter v) (middleOf v) (closingOf (32 + 32 * 256 + 32 * 65536)) = simp e at w in
         subst (PositionStands text v) (ap (λ (b : ℕ). b % 2) (sym space))
         (position-reads text v letter 0 Blank (letter-of owner) (omega arith)
         (words-are text (v + 1) letter v 32 32 32 Blank fits h (omega arith, omega arith, omega arith) blank-reads words) refl)
@@ -273,53 +249,82 @@ rank-above from₀ cost₀ to₀ from cost to a b c d h = go (ltb from₀ from) 
     go false false false false t u v w =
         simp (t, u, v, w) (lt-ltb to₀ to (omega (arith, ltb-false from₀ from t, ltb-false from from₀ u, ltb-false cost₀ cost v, ltb-false cost cost₀ w)))
 
--- what the first i move lines are known to be: every position below `due` that is no `R` has a meant move among them
-pub record SoFar (text : List ℕ) (n i lowest due : ℕ) : Type 0 where
-  pub good : (j : ℕ) → j < i → GoodMove text n (n + 1 + j)
+-- the letter of a cost
+move-letter-of : (cost : ℕ) → cost ≤ 1 → MoveLetter (77 - 9 * cost)
+move-letter-of cost small = go (decLe cost 0)
+  where
+    go : Dec (cost ≤ 0) → MoveLetter (77 - 9 * cost)
+    go (yes l) = inl (omega arith)
+    go (no l) = inr (omega arith)
+
+cost-of : (cost letter : ℕ) → cost ≤ 1 → letter ≡ 77 - 9 * cost → costOf letter ≡ cost
+unfolding costOf
+cost-of cost letter small e = go (decLe cost 0)
+  where
+    go : Dec (cost ≤ 0) → costOf letter ≡ cost
+    go (yes l) = let c : cost ≡ 0 = omega arith in let m : letter ≡ 77 = omega arith in rw (m, c) refl
+    go (no l) = let c : cost ≡ 1 = omega arith in let m : letter ≡ 68 = omega arith in rw (m, c) refl
+
+-- what the first i move lines are known to be
+pub record SoFar (text : List ℕ) (n i lowest : ℕ) : Type 0 where
+  pub stands : (j : ℕ) → j < i → MoveStands text n (n + 1 + j)
   pub before : 1 ≤ i → rankAt text (n + 1 + i - 1) < lowest
-  pub inside : due ≤ n
-  pub meant : (v : ℕ) → v < due → (letterAt text (v + 1) ≡ 82 → ⊥) → meantIn text n i v ≡ true
 
-pub so-far-none : (text : List ℕ) (n due : ℕ) (words owners : List ℕ) → Tables text n words owners → NextDue owners n 0 due → SoFar text n 0 0 due
-so-far-none text n due words owners tables next =
-    record {
-      good = λ j h. absurd (omega arith);
-      before = λ h. absurd (omega arith);
-      inside = next .high;
-      meant = λ v h other. absurd (other (owner-rest text n words owners tables v (omega (arith, next .high)) (next .resting v (omega arith) h)));
-    }
+pub so-far-none : (text : List ℕ) (n : ℕ) → SoFar text n 0 0
+so-far-none text n = record { stands = λ j h. absurd (omega arith); before = λ h. absurd (omega arith) }
 
-module _ (text : List ℕ) (n i lowest due from cost to next : ℕ) (words owners : List ℕ) (tables : Tables text n words owners) (so-far : SoFar text n i lowest due)
-    (stands : MoveStands text n (n + 1 + i) from to) (is : cost ≡ costOf (letterAt text (n + 1 + i))) (low : lowest ≤ rankOf from cost to)
-    (high : rankOf from cost to < due * 1024 + 512) (after : NextDue owners n (from + 1) next) where
+pub kinds-none : (text : List ℕ) (n : ℕ) (kinds : List ℕ) → RowIs kinds (2 * n) (λ k. 0) → Kinds text n 0 kinds
+kinds-none text n kinds zero-row = record { noted = λ i h. absurd (omega arith); meant = λ v h e. absurd (omega (arith, zero-row (2 * v) (omega arith))) }
+
+-- a line with the words of a move reads as it
+pub move-reads : (text : List ℕ) (n line from cost to : ℕ) (openings middles closings numbers : List ℕ) → Tables n openings middles closings numbers → from < n → to < n → cost ≤ 1 →
+    LineWords text (line * 12) (getD openings (2 * from + cost) 0) (getD middles from 0) (getD closings to 0) → Reads text line (77 - 9 * cost) from (Number to)
+move-reads text n line from cost to openings middles closings numbers tables f t small w =
+    let few = tables .few in
+    let opens = tables .opening (2 * from + cost) (omega arith) ∙ move-opens (2 * from + cost) from cost small refl in
+    words-read text line (77 - 9 * cost) from to (omega arith) (omega arith) (omega arith) (rw (opens, tables .middle from f, tables .closing to t) at w)
+
+-- a move line more, which reads as a move
+module _ (text : List ℕ) (n i from cost to : ℕ) (few : n ≤ 512) (f : from < n) (t : to < n) (small : cost ≤ 1) (reads : Reads text (n + 1 + i) (77 - 9 * cost) from (Number to)) where
   from-is : fromAt text (n + 1 + i) ≡ from
-  from-is = reads-from text (n + 1 + i) (stands .letter) from (Number to) (stands .reads)
+  from-is = reads-from text (n + 1 + i) (77 - 9 * cost) from (Number to) reads
 
   to-is : toAt text (n + 1 + i) ≡ to
-  to-is = reads-to text (n + 1 + i) (stands .letter) from to (stands .reads)
+  to-is = reads-to text (n + 1 + i) (77 - 9 * cost) from to reads
+
+  cost-is : costOf (letterAt text (n + 1 + i)) ≡ cost
+  cost-is = cost-of cost (letterAt text (n + 1 + i)) small (reads .letter-is)
 
   rank-is : rankAt text (n + 1 + i) ≡ rankOf from cost to
   unfolding rankAt
-  rank-is = simp (from-is, to-is, is)
+  rank-is = simp (from-is, to-is, cost-is)
 
-  line-good : GoodMove text n (n + 1 + i)
+  -- of no lower rank than the lines before allow
+  line-stands : (lowest : ℕ) → SoFar text n i lowest → lowest ≤ rankOf from cost to → MoveStands text n (n + 1 + i)
   unfolding rises rankAt
-  line-good =
+  line-stands lowest so-far low =
       record {
-        form = reads-formed MoveLetter text (n + 1 + i) (stands .letter) from (Number to) (secondAt text (n + 1 + i)) to (stands .reads) (stands .reads .second-is) (stands .allowed);
-        from-position = rw from-is (stands .from-position);
-        to-position = rw to-is (stands .to-position);
-        undisturbed = λ p q. stands .undisturbed (sym (stands .reads .letter-is) ∙ p) (ap (λ (v : ℕ). letterAt text (v + 1)) (sym from-is) ∙ q);
-        unmeant = λ p q. stands .unmeant (sym (stands .reads .letter-is) ∙ p) (ap (λ (v : ℕ). letterAt text (v + 1)) (sym from-is) ∙ q);
+        form = reads-formed MoveLetter text (n + 1 + i) (77 - 9 * cost) from (Number to) (secondAt text (n + 1 + i)) to reads (reads .second-is) (move-letter-of cost small);
+        from-position = rw from-is f;
+        to-position = rw to-is t;
         above = λ h.
             let some : 1 ≤ i = omega arith in
-            let last = so-far .good (i - 1) (omega arith) .to-position in
+            let last = so-far .stands (i - 1) (omega arith) .to-position in
             let name : n + 1 + (i - 1) ≡ n + 1 + i - 1 = omega arith in
             let to₀ : toAt text (n + 1 + i - 1) < n = subst (λ (k : ℕ). toAt text k < n) name last in
-            let to₁ : toAt text (n + 1 + i) < n = rw to-is (stands .to-position) in
+            let to₁ : toAt text (n + 1 + i) < n = rw to-is t in
             rank-above (fromAt text (n + 1 + i - 1)) (costOf (letterAt text (n + 1 + i - 1))) (toAt text (n + 1 + i - 1))
             (fromAt text (n + 1 + i)) (costOf (letterAt text (n + 1 + i))) (toAt text (n + 1 + i))
-            (cost-fits _ (letterAt text (n + 1 + i - 1)) refl) (cost-fits _ (letterAt text (n + 1 + i)) refl) (omega arith) (omega arith) (omega (arith, so-far .before some, rank-is));
+            (omega (arith, cost-small (letterAt text (n + 1 + i - 1)))) (omega (arith, cost-small (letterAt text (n + 1 + i)))) (omega arith) (omega arith) (omega (arith, so-far .before some, rank-is));
+      }
+
+  pub so-far-next : (lowest : ℕ) → SoFar text n i lowest → lowest ≤ rankOf from cost to → SoFar text n (i + 1) (rankOf from cost to + 1)
+  so-far-next lowest so-far low =
+      record {
+        stands = below-more (λ (j : ℕ). MoveStands text n (n + 1 + j)) i (so-far .stands) (line-stands lowest so-far low);
+        before = λ h.
+            let name : n + 1 + i ≡ n + 1 + (i + 1) - 1 = omega arith in
+            subst (λ (k : ℕ). rankAt text k < rankOf from cost to + 1) name (omega (arith, rank-is));
       }
 
   -- a meant move among the lines before is one among them and this one
@@ -327,41 +332,95 @@ module _ (text : List ℕ) (n i lowest due from cost to next : ℕ) (words owner
   unfolding meantIn
   meant-more v e = rw add-one (simp e)
 
-  -- where the line is from what was due, it is a meant move of it
-  meant-here : from ≡ due → meantIn text n (i + 1) from ≡ true
-  unfolding meantIn meantLine rankOf
-  meant-here same =
-      let free : costOf (letterAt text (n + 1 + i)) ≡ 0 = omega arith in
-      let letter : letterAt text (n + 1 + i) ≡ 77 = meant-letter (letterAt text (n + 1 + i)) (subst MoveLetter (sym (stands .reads .letter-is)) (stands .allowed)) free in
+  -- where the line is a meant move it is one of its position
+  meant-here : cost ≡ 0 → meantIn text n (i + 1) from ≡ true
+  unfolding meantIn meantLine
+  meant-here free =
+      let letter : letterAt text (n + 1 + i) ≡ 77 = reads .letter-is ∙ omega arith in
       rw add-one (simp (eq-eqb (letterAt text (n + 1 + i)) 77 letter, eq-eqb (fromAt text (n + 1 + i)) from from-is) (either (meantIn text n i from)))
     where
       either : (b : Bool) → cond b true true ≡ true
       either true = refl
       either false = refl
 
-  -- below what is due next is what was below, what was due itself, or at rest
-  meant-next : (v : ℕ) → v < next → (letterAt text (v + 1) ≡ 82 → ⊥) → meantIn text n (i + 1) v ≡ true
-  unfolding rankOf
-  meant-next v h other = go (decLe (v + 1) due) (decLe v from)
-    where
-      go : Dec (v + 1 ≤ due) → Dec (v ≤ from) → meantIn text n (i + 1) v ≡ true
-      go (yes l) e = meant-more v (so-far .meant v (omega arith) other)
-      go (no l) (yes e) = subst (λ (u : ℕ). meantIn text n (i + 1) u ≡ true) (omega arith) (meant-here (omega arith))
-      go (no l) (no e) = absurd (other (owner-rest text n words owners tables v (omega (arith, after .high)) (after .resting v (omega arith) h)))
-
-  pub so-far-next : SoFar text n (i + 1) (rankOf from cost to + 1) next
-  so-far-next =
+  pub kinds-next : (kinds : List ℕ) → 2 * n ≤ length kinds → Kinds text n i kinds → Kinds text n (i + 1) (set kinds (2 * from + cost) 1)
+  kinds-next kinds room so-far =
       record {
-        good = below-more (λ (j : ℕ). GoodMove text n (n + 1 + j)) i (so-far .good) line-good;
-        before = λ h.
-            let name : n + 1 + i ≡ n + 1 + (i + 1) - 1 = omega arith in
-            subst (λ (k : ℕ). rankAt text k < rankOf from cost to + 1) name (omega (arith, rank-is));
-        inside = after .high;
-        meant = meant-next;
+        noted = below-more (λ (j : ℕ). getD (set kinds (2 * from + cost) 1) (2 * fromAt text (n + 1 + j) + costOf (letterAt text (n + 1 + j))) 0 ≡ 1) i
+            (λ j h. stays (2 * fromAt text (n + 1 + j) + costOf (letterAt text (n + 1 + j))) (so-far .noted j h) (ℕ-discrete _ (2 * from + cost)))
+            (rw (from-is, cost-is) here);
+        meant = λ v h e. go v h e (ℕ-discrete (2 * v) (2 * from + cost));
       }
+    where
+      here : getD (set kinds (2 * from + cost) 1) (2 * from + cost) 0 ≡ 1
+      here = getD-set-same kinds (2 * from + cost) 1 0 (omega arith)
+
+      stays : (k : ℕ) → getD kinds k 0 ≡ 1 → Dec (k ≡ 2 * from + cost) → getD (set kinds (2 * from + cost) 1) k 0 ≡ 1
+      stays k e (yes z) = rw z here
+      stays k e (no z) = getD-set-other kinds (2 * from + cost) k 1 0 z ∙ e
+
+      go : (v : ℕ) → v < n → getD (set kinds (2 * from + cost) 1) (2 * v) 0 ≡ 1 → Dec (2 * v ≡ 2 * from + cost) → meantIn text n (i + 1) v ≡ true
+      go v h e (yes z) = let same : from ≡ v = omega arith in subst (λ (u : ℕ). meantIn text n (i + 1) u ≡ true) same (meant-here (omega arith))
+      go v h e (no z) = meant-more v (so-far .meant v h (sym (getD-set-other kinds (2 * from + cost) (2 * v) 1 0 z) ∙ e))
+
+  pub rows-next : {costs₀ costs froms₀ froms tos₀ tos : List ℕ} → (i < length costs₀) × (i < length froms₀) × (i < length tos₀) → MoveRows text (n + 1) i costs₀ costs froms₀ froms tos₀ tos →
+      MoveRows text (n + 1) (i + 1) costs₀ (set costs i cost) froms₀ (set froms i from) tos₀ (set tos i to)
+  rows-next room rows =
+      record {
+        cost = filled-more _ _ i cost _ (rows .cost) (room .0) (sym cost-is);
+        from = filled-more _ _ i from _ (rows .from) (room .1) (sym from-is);
+        to = filled-more _ _ i to _ (rows .to) (room .2) (sym to-is);
+      }
+
+-- a number set below a bound leaves what lies past it
+pub kept-set : {count : ℕ} {old new : List ℕ} (k x : ℕ) → Kept count old new → k < count → Kept count old (set new k x)
+kept-set {count} {old} {new} k x h l = record { rest = λ j m. getD-set-other new k j x 0 (λ z. omega arith) ∙ h .rest j m; same-length = length-set new k x ∙ h .same-length }
+
+-- the kinds of one position more: its meant moves and half its owner make 1, which is 1 for an `R` alone; its disturbances and the rest of
+-- that half are not both 1, which is 1 for an `L` alone
+pub allowed-none : (owners kinds : List ℕ) → KindsAllowed owners 0 kinds
+allowed-none owners kinds = record { needed = λ v h. absurd (omega arith); unmeant = λ v h. absurd (omega arith); undisturbed = λ v h. absurd (omega arith) }
+
+pub allowed-more : (owners kinds : List ℕ) (v : ℕ) → KindsAllowed owners v kinds → getD kinds (2 * v) 0 + getD owners v 0 / 2 ≡ 1 → (getD kinds (2 * v + 1) 0 + getD owners v 0 % 2 ≡ 2 → ⊥) → KindsAllowed owners (v + 1) kinds
+allowed-more owners kinds v h meant free =
+    record {
+      needed = below-more (λ (u : ℕ). getD owners u 0 ≤ 1 → getD kinds (2 * u) 0 ≡ 1) v (h .needed) (λ o. omega arith);
+      unmeant = below-more (λ (u : ℕ). getD owners u 0 ≡ 2 → getD kinds (2 * u) 0 ≡ 1 → ⊥) v (h .unmeant) (λ o k. omega arith);
+      undisturbed = below-more (λ (u : ℕ). getD owners u 0 ≡ 1 → getD kinds (2 * u + 1) 0 ≡ 1 → ⊥) v (h .undisturbed) (λ o k. free (omega arith));
+    }
+
+-- every move line is good, every position but an `R` (82) has a meant move, and the moves are in the rows
+pub record MovesPassed (text : List ℕ) (n m : ℕ) (costs₀ costs froms₀ froms tos₀ tos : List ℕ) : Type 0 where
+  pub good : (i : ℕ) → i < m → GoodMove text n (n + 1 + i)
+  pub meant : (v : ℕ) → v < n → (letterAt text (v + 1) ≡ 82 → ⊥) → meantIn text n m v ≡ true
+  pub rows : MoveRows text (n + 1) m costs₀ costs froms₀ froms tos₀ tos
+
+-- where the kinds are allowed, lines that stand are good, and every position that needs a meant move has one
+pub moves-pass : (text : List ℕ) (n m : ℕ) (owners kinds costs₀ costs froms₀ froms tos₀ tos : List ℕ) → RowIs owners n (λ v. ownerNumber (ownerOf (letterAt text (v + 1)))) →
+    KindsAllowed owners n kinds → MovesStand text n m kinds costs₀ costs froms₀ froms tos₀ tos → MovesPassed text n m costs₀ costs froms₀ froms tos₀ tos
+moves-pass text n m owners kinds costs₀ costs froms₀ froms tos₀ tos owner allowed h =
+    record {
+      good = λ i l.
+          let line = h .stands i l in
+          let from = fromAt text (n + 1 + i) in
+          record {
+            form = line .form;
+            from-position = line .from-position;
+            to-position = line .to-position;
+            undisturbed = λ p q. allowed .undisturbed from (line .from-position) (lane-owner text n owners owner from (line .from-position) q) (noted-as i (2 * from + 1) l (omega (arith, cost-of 1 _ (omega arith) p)));
+            unmeant = λ p q. allowed .unmeant from (line .from-position) (rest-owner text n owners owner from (line .from-position) q) (noted-as i (2 * from) l (omega (arith, cost-of 0 _ (omega arith) p)));
+            above = line .above;
+          };
+      meant = λ v l other. h .kind .meant v l (allowed .needed v l (other-owner text n owners owner v l other));
+      rows = h .rows;
+    }
+  where
+    noted-as : (i kind : ℕ) → i < m → 2 * fromAt text (n + 1 + i) + costOf (letterAt text (n + 1 + i)) ≡ kind → getD kinds kind 0 ≡ 1
+    noted-as i kind l e = subst (λ (k : ℕ). getD kinds k 0 ≡ 1) e (h .kind .noted i l)
 
 -- what a good header says of the counts and the length
 pub record HeaderFits (text : List ℕ) (chart : Chart) : Type 0 where
+  pub some : 1 ≤ chart .positions
   pub positions : chart .positions ≤ 512
   pub moves : chart .moves ≤ 4096
   pub lines : length text ≡ (1 + chart .positions + chart .moves) * 12
@@ -369,7 +428,7 @@ pub record HeaderFits (text : List ℕ) (chart : Chart) : Type 0 where
 pub header-fits : (text : List ℕ) (chart : Chart) → headerOf text ≡ Accepted chart → HeaderFits text chart
 header-fits text chart e =
     let w = header-accepts text chart e in
-    subst (λ (k : Chart). HeaderFits text k) (sym (w .1)) (record { positions = w .0 .positions; moves = w .0 .moves; lines = w .0 .lines })
+    subst (λ (k : Chart). HeaderFits text k) (sym (w .1)) (record { some = w .0 .some-position; positions = w .0 .positions; moves = w .0 .moves; lines = w .0 .lines })
 
 -- lines that are good after a good header are an accepted text
 counts-pass : (text : List ℕ) (owners₀ owners marks₀ marks costs₀ costs froms₀ froms tos₀ tos : List ℕ) →

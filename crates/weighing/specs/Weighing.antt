@@ -48,6 +48,14 @@ pub record RestrictedSolved (n m : ℕ) (owners marks costs froms tos choices wo
   pub rows : (a : Arena) → RowsOf a n m owners marks costs froms tos → Legal a (rowValue choices) → WeighedRows a (rowValue choices) n count owners marks costs′ froms′ tos′ worths′
   pub stay : Stays n worths worths′
 
+-- the worths alone, whatever rows had the moves that stay
+pub record LegalWeighed (n m : ℕ) (owners marks costs froms tos choices worths worths′ : List ℕ) : Type 0 where
+  pub count : ℕ
+  pub costs′ : List ℕ
+  pub froms′ : List ℕ
+  pub tos′ : List ℕ
+  pub solved : RestrictedSolved n m owners marks costs froms tos choices worths count costs′ froms′ tos′ worths′
+
 -- weighing decoded rows: whether the choices are legal, and then the worths
 pub record RowsWeighed (n m : ℕ) (owners marks costs froms tos choices worths worths′ : List ℕ) (r : Bool) : Type 0 where
   pub answer : (a : Arena) → RowsOf a n m owners marks costs froms tos → r ≡ legalRow a (rowValue choices) n

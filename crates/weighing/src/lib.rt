@@ -5,15 +5,16 @@ ghost use Rattle.game.specs.Play.{Legal};
 ghost use Rattle.game.specs.Arena.{Arena};
 ghost use Rattle.rows.specs.Numbers.{rowValue};
 ghost use Rattle.rows.specs.Rows.{ChartRows, RowsOf};
-ghost use Rattle.weighing.specs.Weighing.{RestrictedSolved, RowsWeighed, WeighedIs};
+ghost use Rattle.weighing.specs.Weighing.{LegalWeighed, RestrictedSolved, RowsWeighed, WeighedIs};
 use chart::Examination;
 use decode::load;
+use filed::FEW;
+use filed::solve_filed;
 use refusal::Refusal;
 use restriction::all_legal;
 use restriction::flag_chosen;
 use restriction::restrict;
 use rows::Chart;
-use solver::solve;
 
 // What Weighing answers: that the worths are there, or a refusal: the chart's, 10 where a row is shorter than the count of positions,
 // or 12 where a choice is not legal.
@@ -78,6 +79,63 @@ pub fn weigh_rows(
     if !all_legal(n, owners, choices, &flags) {
         return false;
     }
+    if m <= FEW {
+        weigh_few(n, m, owners, marks, costs, froms, tos, choices, worths);
+    } else {
+        weigh_many(n, m, owners, marks, costs, froms, tos, choices, worths);
+    }
+    true
+}
+
+// Weighs legal choices over a chart with few moves, and over any: only the length of the rows for the moves that stay differs.
+fn weigh_few(
+    n: usize,
+    m: usize,
+    owners: &[u8],
+    marks: &[u8],
+    costs: &[u8],
+    froms: &[u16],
+    tos: &[u16],
+    choices: &[u16],
+    worths: &mut [u16],
+)
+    requires { ⌜ ((a : Arena) × (RowsOf a n m (now owners) (now marks) (now costs) (now froms) (now tos) × Legal a (rowValue (now choices)))) × (n ≤ length (now choices)) × (n ≤ length (now worths)) ⌝ }
+    requires { ⌜ m ≤ 512 ⌝ }
+    ensures { λ _. ⌜ LegalWeighed n m (now (owners .entry)) (now (marks .entry)) (now (costs .entry)) (now (froms .entry)) (now (tos .entry)) (now (choices .entry)) (now (worths .entry)) (now (worths .exit)) ⌝ }
+{
+    let mut costskept = [0u8; FEW];
+    let mut fromskept = [0u16; FEW];
+    let mut toskept = [0u16; FEW];
+    solve_restricted(
+        n,
+        m,
+        owners,
+        marks,
+        costs,
+        froms,
+        tos,
+        choices,
+        &mut costskept,
+        &mut fromskept,
+        &mut toskept,
+        worths,
+    );
+}
+
+fn weigh_many(
+    n: usize,
+    m: usize,
+    owners: &[u8],
+    marks: &[u8],
+    costs: &[u8],
+    froms: &[u16],
+    tos: &[u16],
+    choices: &[u16],
+    worths: &mut [u16],
+)
+    requires { ⌜ ((a : Arena) × (RowsOf a n m (now owners) (now marks) (now costs) (now froms) (now tos) × Legal a (rowValue (now choices)))) × (n ≤ length (now choices)) × (n ≤ length (now worths)) ⌝ }
+    ensures { λ _. ⌜ LegalWeighed n m (now (owners .entry)) (now (marks .entry)) (now (costs .entry)) (now (froms .entry)) (now (tos .entry)) (now (choices .entry)) (now (worths .entry)) (now (worths .exit)) ⌝ }
+{
     let mut costskept = [0u8; Chart::MOVES];
     let mut fromskept = [0u16; Chart::MOVES];
     let mut toskept = [0u16; Chart::MOVES];
@@ -95,7 +153,6 @@ pub fn weigh_rows(
         &mut toskept,
         worths,
     );
-    true
 }
 
 // Copies the moves that stay when the controller makes these choices, which are legal, and solves them: the worths. Answers how many
@@ -131,7 +188,7 @@ pub fn solve_restricted(
         fromskept,
         toskept,
     );
-    solve(
+    solve_filed(
         n,
         count,
         owners,

@@ -66,6 +66,7 @@ fn write_valued(
     let mut choices = [0u16; Chart::POSITIONS];
     let mut steps = [0u16; Chart::POSITIONS];
     let s = value_rows(
+        false,
         n,
         m,
         owners,

@@ -118,7 +118,7 @@ impl Pairs {
 }
 
 /// Both writers on the things in turn, after a look that they write the same bytes, and all of them.
-fn both<T>(things: &[T], size: usize, library: fn(&T, &mut [u8]), rust: fn(&T, &mut [u8])) -> (f64, f64) {
+fn both<T>(things: &[T], size: usize, library: fn(&T, &mut [u8]), rust: fn(&T, &mut [u8])) -> [f64; 2] {
     for thing in things {
         let (mut one, mut other) = (vec![0; size], vec![1; size]);
         library(thing, &mut one);
@@ -132,7 +132,7 @@ fn both<T>(things: &[T], size: usize, library: fn(&T, &mut [u8]), rust: fn(&T, &
             black_box(&mut out);
         }
     };
-    times(in_turn(library), in_turn(rust))
+    times([&mut in_turn(library), &mut in_turn(rust)])
 }
 
 fn plates() -> Vec<(&'static str, Vec<Rows>)> {
@@ -169,7 +169,7 @@ pub fn lines() {
     );
     println!("4,096 good moves. The drawn ones are {TURNS} that take turns. Microseconds a call.\n");
     println!("{:<40}{:>10}{:>10}{:>8}", "lines", "library", "Rust", "ratio");
-    let row = |name, (library, rust): (f64, f64)| {
+    let row = |name, [library, rust]: [f64; 2]| {
         println!("{name:<40}{library:>10.2}{rust:>10.2}{:>8.2}", library / rust);
     };
     for (name, rows) in plates() {

@@ -1,4 +1,5 @@
-//! The timings: the library, through its C interface, beside the fast solver in Rust, on the same inputs in one run.
+//! The timings: the library, through its C interface, beside the fast solver in Rust, on the same inputs in one run. With
+//! the word `ways` only the section in which the library's two ways of Valuing stand side by side.
 
 use conformance::blanks::leave_out;
 use conformance::capi::{self, Listed, Run};
@@ -12,7 +13,9 @@ use conformance::shapes::{
 use conformance::solver;
 use conformance::stacks::{first_report, full_house, stacks};
 use std::hint::black_box;
+use std::process::ExitCode;
 
+mod both_ways;
 mod lines;
 
 const JOBS: [&str; 6] = ["value", "write", "check", "weigh", "good", "ruin"];
@@ -93,22 +96,21 @@ fn rust(job: usize, input: &Input, lent: &mut Lent) {
 }
 
 /// Both programs on one input, after a look that they answer alike.
-fn both(job: usize, input: &Input) -> (f64, f64) {
+fn both(job: usize, input: &Input) -> [f64; 2] {
     let (mut one, mut other) = (Lent::new(), Lent::new());
     library(job, input, &mut one);
     rust(job, input, &mut other);
     let sheets_alike = one.plate == other.plate && one.sheet == other.sheet && one.way == other.way;
     assert!(one.rows == other.rows && sheets_alike, "the two answer alike");
-    times(|| library(job, input, &mut one), || rust(job, input, &mut other))
+    times([&mut || library(job, input, &mut one), &mut || rust(job, input, &mut other)])
 }
 
 /// Both programs on reading alone: Valuing reads the whole chart, and then refuses rows that are too short (10).
-fn reading_alone(chart: &[u8]) -> (f64, f64) {
+fn reading_alone(chart: &[u8]) -> [f64; 2] {
     let short = |number| assert_eq!(number, 10, "the chart is accepted, the rows are short");
-    times(
-        || short(capi::value(black_box(chart), &mut [], &mut [], &mut []).refusal.number),
-        || short(solver::value(black_box(chart), &mut [], &mut [], &mut []).refusal.number),
-    )
+    let mut library = || short(capi::value(black_box(chart), &mut [], &mut [], &mut []).refusal.number);
+    let mut rust = || short(solver::value(black_box(chart), &mut [], &mut [], &mut []).refusal.number);
+    times([&mut library, &mut rust])
 }
 
 fn shaped(n: usize, moves: usize, shape: Shape) -> Chart {
@@ -166,13 +168,13 @@ fn kinds() -> Vec<(&'static str, Chart)> {
 }
 
 fn full_charts() {
-    println!("Charts with 4,096 moves, 512 positions where not said otherwise. Microseconds a call.\n");
+    println!("\nCharts with 4,096 moves, 512 positions where not said otherwise. Microseconds a call.\n");
     println!("{:<32}{:<8}{:>10}{:>10}{:>8}", "chart", "job", "library", "Rust", "ratio");
     for (name, chart) in kinds() {
         let input = Input::new(&chart);
         assert_eq!(chart.moves(), MOVES, "{name}");
         for (job, title) in JOBS.iter().enumerate() {
-            let (library, rust) = both(job, &input);
+            let [library, rust] = both(job, &input);
             println!("{name:<32}{title:<8}{library:>10.1}{rust:>10.1}{:>8.2}", library / rust);
         }
     }
@@ -192,7 +194,7 @@ fn reading() {
 }
 
 fn reading_row(name: &str, chart: &[u8]) {
-    let (library, rust) = reading_alone(chart);
+    let [library, rust] = reading_alone(chart);
     println!("{name:<40}{library:>10.2}{rust:>10.2}{:>8.2}", library / rust);
 }
 
@@ -204,10 +206,10 @@ fn reports() {
         let input = &Input::new(&chart);
         let (run, to) = input.report;
         let taken = |number| assert_eq!(number, 0, "nothing was refused");
-        let (report, check) = times(
-            || taken(capi::report(black_box(run), &input.chart, &input.plate, to).refusal.number),
-            || taken(capi::check(black_box(&input.chart), &input.plate).number),
-        );
+        let [report, check] = times([
+            &mut || taken(capi::report(black_box(run), &input.chart, &input.plate, to).refusal.number),
+            &mut || taken(capi::check(black_box(&input.chart), &input.plate).number),
+        ]);
         println!("{name:<40}{report:>10.2}{check:>10.2}{:>8.2}", report / check);
     }
 }
@@ -228,14 +230,13 @@ fn houses() {
             lanes.copy_from_slice(black_box(runs));
             assert_eq!(capi::report_house(&mut lanes, reports, &input.chart, &input.plate).moved, LANES);
         };
-        let (_, all) = times(&mut house, || (0..LANES).for_each(|_| single()));
-        let (house, report) = times(&mut house, single);
+        let [house, report, all] = times([&mut house, &mut || single(), &mut || (0..LANES).for_each(|_| single())]);
         println!("{name:<40}{house:>10.2}{report:>10.2}{all:>12.2}{:>8.2}", house / report);
     }
 }
 
 /// A way to ruin, the longest of its chart, beside Valuing and Weighing.
-fn ways() {
+fn ways_to_ruin() {
     println!(
         "\nThe longest way to ruin by the plate's choices, 0 lines where there is none, beside Valuing and Weighing"
     );
@@ -243,10 +244,9 @@ fn ways() {
     println!("{:<40}{:>7}{:>10}{:>10}{:>10}{:>8}", "chart", "lines", "ruin", "value", "weigh", "ratio");
     for (name, chart) in kinds().into_iter().chain(small_kinds()) {
         let input = Input::new(&chart);
-        let mut lent = [Lent::new(), Lent::new()];
-        let [one, other] = &mut lent;
-        let (_, value) = times(|| library(5, &input, one), || library(0, &input, other));
-        let (ruin, weigh) = times(|| library(5, &input, one), || library(3, &input, other));
+        let [mut one, mut two, mut three] = [(); 3].map(|()| Lent::new());
+        let (mut ruin, mut value) = (|| library(5, &input, &mut one), || library(0, &input, &mut two));
+        let [ruin, value, weigh] = times([&mut ruin, &mut value, &mut || library(3, &input, &mut three)]);
         let lines = input.way.lines;
         println!("{name:<40}{lines:>7}{ruin:>10.2}{value:>10.2}{weigh:>10.2}{:>8.2}", ruin / weigh);
     }
@@ -267,7 +267,7 @@ fn growth() {
             let input = Input::new(&chart);
             print!("{name:<10}{n:>6}");
             for job in 0..JOBS.len() {
-                let (library, rust) = both(job, &input);
+                let [library, rust] = both(job, &input);
                 print!("{:>18}", format!("{library:.1} / {rust:.1}"));
             }
             println!();
@@ -290,17 +290,31 @@ fn memory() {
     }
 }
 
-fn main() {
+fn main() -> ExitCode {
+    let words: Vec<String> = std::env::args().skip(1).collect();
+    if !words.is_empty() && words != ["ways"] {
+        eprintln!("usage: timings [ways]");
+        return ExitCode::from(2);
+    }
     println!("The library through its C interface beside the fast solver in Rust, both built for release.");
     println!("Each call is a whole job from the chart's text, but where lines alone are timed.");
     println!("Medians of batches that take turns.");
-    println!("What is lent is not cleared between calls: answers are written over the last ones.\n");
+    println!("What is lent is not cleared between calls: answers are written over the last ones.");
+    match words.is_empty() {
+        true => all(),
+        false => both_ways::both_ways(),
+    }
+    ExitCode::SUCCESS
+}
+
+fn all() {
     full_charts();
+    both_ways::both_ways();
     reading();
     lines::lines();
     reports();
     houses();
-    ways();
+    ways_to_ruin();
     growth();
     memory();
 }

@@ -7,10 +7,10 @@ use Rattle.jobs_test.proofs.cases.Statement.{statement}
 use Rattle.jobs_test.proofs.cases.Tie as tie
 
 abbrev Inv-loop : tie.InvT-loop
-Inv-loop input at₀ held₀ k₀ at held k = k ≤ 1000
+Inv-loop input at₀ held₀ k₀ at held k = k ≤ 2000
 
 abbrev μ-loop : tie.MeasureT-loop
-μ-loop input at₀ held₀ k₀ at held k = 1000 - k
+μ-loop input at₀ held₀ k₀ at held k = 2000 - k
 
 none-requires : tie.Need-none-requires Inv-loop μ-loop
 none-requires c κs = search needs

@@ -9,20 +9,20 @@ use Rattle.listing.proofs.list_rows.Statement.{statement}
 use Rattle.listing.proofs.list_rows.Tie as tie
 
 -- where the moves are picked, the rounds were solved, and before that the rows came in
-abbrev solving : tie.After-pick-good → tie.After-solve
+abbrev solving : tie.After-pick-good → tie.After-solve-filed
 solving c = c .before .before .before .before .before .before
 
 abbrev start : tie.After-pick-good → tie.Start
 start c = solving c .before .before .before .before .before .before .before .before .before
 
-slice-aggregate-solve : tie.Need-slice-aggregate-solve
-slice-aggregate-solve c = search needs
+slice-aggregate-solve-filed : tie.Need-slice-aggregate-solve-filed
+slice-aggregate-solve-filed c = search needs
 
-slice-aggregate-solve-2 : tie.Need-slice-aggregate-solve-2
-slice-aggregate-solve-2 c = search needs
+slice-aggregate-solve-filed-2 : tie.Need-slice-aggregate-solve-filed-2
+slice-aggregate-solve-filed-2 c = search needs
 
-solve-requires : tie.Need-solve-requires
-solve-requires c κs = search needs
+solve-filed-requires : tie.Need-solve-filed-requires
+solve-filed-requires c κs = search needs
 
 slice-aggregate-pick-good : tie.Need-slice-aggregate-pick-good
 slice-aggregate-pick-good c = search needs
@@ -37,7 +37,7 @@ pick-good-requires : tie.Need-pick-good-requires
 pick-good-requires c κs =
     let solved = c .before .before .before .before .before in
     let rows = solved .before .before .before .before .before .before .before .before .before .pre .1 in
-    let kept = solved .solve .kept in
+    let kept = solved .solve-filed .kept in
     (rows-within rows, rows .owners-row, omega (arith, rows .few-positions, kept), omega (arith, rows .few-moves), omega (arith, rows .few-moves))
 
 mul-if1 : tie.Need-mul-if1
@@ -48,7 +48,7 @@ mul-if1 c =
 returns : tie.Need-returns
 returns c =
     let picking = c .before .before .before in
-    rows-short (solving picking .solve .ensures) (picking .pick-good .ensures) (lt-leb _ _ (c .if1 .taken))
+    rows-short (solving picking .solve-filed .ensures) (picking .pick-good .ensures) (lt-leb _ _ (c .if1 .taken))
 
 slice-aggregate-write-lines : tie.Need-slice-aggregate-write-lines
 slice-aggregate-write-lines c = search needs
@@ -71,15 +71,15 @@ returns-2 : tie.Need-returns-2
 returns-2 c =
     let writing = c .before .before in
     let picking = c .before .before .before .before .before .before .before .before .before in
-    rows-listed (solving picking .solve .ensures) (picking .pick-good .ensures) (le-leb _ _ (c .before .before .before .before .before .before .if1 .left)) (writing .write-lines .ensures)
+    rows-listed (solving picking .solve-filed .ensures) (picking .pick-good .ensures) (le-leb _ _ (c .before .before .before .before .before .before .if1 .left)) (writing .write-lines .ensures)
 
 pub list-rows-spec : {M : Type 1} → statement M
 list-rows-spec =
     tie.close
     (tie.spec
-    slice-aggregate-solve
-    slice-aggregate-solve-2
-    solve-requires
+    slice-aggregate-solve-filed
+    slice-aggregate-solve-filed-2
+    solve-filed-requires
     slice-aggregate-pick-good
     slice-aggregate-pick-good-2
     slice-aggregate-pick-good-3

@@ -12,15 +12,6 @@ use Rattle.walk.proofs.line_is.Tie as tie
 word-requires : tie.Need-word-requires
 word-requires c κs = search needs
 
-add-if1 : tie.Need-add-if1
-add-if1 c = search needs
-
-mul-if1 : tie.Need-mul-if1
-mul-if1 c = search needs
-
-add-if1-2 : tie.Need-add-if1-2
-add-if1-2 c = search needs
-
 returns : tie.Need-returns
 returns c = stopped
 
@@ -29,9 +20,6 @@ add-word c = search needs
 
 word-requires-2 : tie.Need-word-requires-2
 word-requires-2 c κs = search needs
-
-add-if2 : tie.Need-add-if2
-add-if2 c = search needs
 
 returns-2 : tie.Need-returns-2
 returns-2 c = stopped
@@ -42,18 +30,15 @@ add-word-2 c = search needs
 word-requires-3 : tie.Need-word-requires-3
 word-requires-3 c κs = search needs
 
-add-result : tie.Need-add-result
-add-result c = search needs
-
 returns-3 : tie.Need-returns-3
 returns-3 c = λ e.
     let second = c .before .before in
     let first = second .before .before in
     let a = first .before .before .args in
     record {
-      opening = subst (λ (k : ℕ). WordIs (now (a .text)) (a .at) k) (second .before .if1 .left) (first .word .ensures);
-      middle = subst (λ (k : ℕ). WordIs (now (a .text)) (a .at + 4) k) (c .before .if2 .left) (second .word2 .ensures);
-      closing = subst (λ (k : ℕ). WordIs (now (a .text)) (a .at + 8) k) (eqb-true (c .word3 .result) (a .second + 167772160) e) (c .word3 .ensures);
+      opens = subst (λ (k : ℕ). WordIs (now (a .text)) (a .at) k) (second .before .if1 .left) (first .word .ensures);
+      goes-on = subst (λ (k : ℕ). WordIs (now (a .text)) (a .at + 4) k) (c .before .if2 .left) (second .word2 .ensures);
+      closes = subst (λ (k : ℕ). WordIs (now (a .text)) (a .at + 8) k) (eqb-true (c .word3 .result) (a .closing) e) (c .word3 .ensures);
     }
 
 pub line-is-spec : {M : Type 1} → statement M
@@ -61,15 +46,10 @@ line-is-spec =
     tie.close
     (tie.spec
     word-requires
-    add-if1
-    mul-if1
-    add-if1-2
     returns
     add-word
     word-requires-2
-    add-if2
     returns-2
     add-word-2
     word-requires-3
-    add-result
     returns-3)

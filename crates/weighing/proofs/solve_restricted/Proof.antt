@@ -17,11 +17,11 @@ restrict-requires c κs =
     let d = pre .0 .0 .1 .0 in
     ((rows-within d, d .owners-row, pre .0 .1), pre .1)
 
-slice-aggregate-solve : tie.Need-slice-aggregate-solve
-slice-aggregate-solve c = search needs
+slice-aggregate-solve-filed : tie.Need-slice-aggregate-solve-filed
+slice-aggregate-solve-filed c = search needs
 
-solve-requires : tie.Need-solve-requires
-solve-requires c κs =
+solve-filed-requires : tie.Need-solve-filed-requires
+solve-filed-requires c κs =
     let restricted = c .before .before .before .before .before .before .before .before .before .before .before in
     let pre = start restricted .pre in
     let d = pre .0 .0 .1 .0 in
@@ -51,15 +51,15 @@ returns c =
     let pre = start restricted .pre in
     let fewer = copied-fewer (restricted .restrict .ensures) in
     let kept = restricted .restrict .kept in
-    restricted-solved (restricted .restrict .ensures) (omega (arith, fewer, kept, pre .1)) (omega (arith, fewer, kept, pre .1)) (omega (arith, fewer, kept, pre .1)) (solved .solve .ensures)
+    restricted-solved (restricted .restrict .ensures) (omega (arith, fewer, kept, pre .1)) (omega (arith, fewer, kept, pre .1)) (omega (arith, fewer, kept, pre .1)) (solved .solve-filed .ensures)
 
 pub solve-restricted-spec : {M : Type 1} → statement M
 solve-restricted-spec =
     tie.close
     (tie.spec
     restrict-requires
-    slice-aggregate-solve
-    solve-requires
+    slice-aggregate-solve-filed
+    solve-filed-requires
     same-length
     same-length-2
     same-length-3
