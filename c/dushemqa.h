@@ -47,6 +47,11 @@
  *                         there, else 0. The first has 0. The sum of this column is the count of disturbances, and the lines
  *                         after the first are the moves
  *
+ * A small chart is one of 1 to 3 positions, each O or L. Those of as many positions are numbered from 0 in the order of numerals,
+ * position 0 the leading digit. Within a position O comes before L, then the mark, then the meant set, then the disturbance set; a
+ * set counts 2 to the i for each target i. There are 6 small charts of 1 position, 900 of 2 and 2,000,376 of 3, and each has one
+ * index; a blank mark counts as 0.
+ *
  * On a refusal everything that was lent is as it was, a run comes back as it was handed in, and all other numbers of the
  * answer are 0, save the position where a start began no run and the lane whose report a house refused.
  */
@@ -62,13 +67,15 @@ extern "C" {
 #endif
 
 /* The most positions and moves of a chart, and the bytes of the longest chart, the longest plate, the longest sheet of good moves
- * and the longest way to ruin. */
+ * and the longest way to ruin; the most positions of a small chart, and the bytes of the longest one. */
 #define DUSHEMQA_MAX_POSITIONS 512
 #define DUSHEMQA_MAX_MOVES 4096
 #define DUSHEMQA_MAX_CHART_BYTES 55308
 #define DUSHEMQA_MAX_PLATE_BYTES 11286
 #define DUSHEMQA_MAX_SHEET_BYTES 49152
 #define DUSHEMQA_MAX_RUIN_BYTES 6144
+#define DUSHEMQA_MAX_SMALL_POSITIONS 3
+#define DUSHEMQA_MAX_SMALL_BYTES 264
 
 /* The bytes of a chart's line, which is also a line of a sheet of good moves and of a way to ruin, and of a plate's line. */
 #define DUSHEMQA_CHART_LINE_BYTES 12
@@ -83,11 +90,11 @@ extern "C" {
 /* The most lanes of a house. */
 #define DUSHEMQA_MAX_LANES 64
 
-/* Why a job refused. 1 to 9 and 17 are the chart's: every job tests them first, save that dushemqa_report_house tests 20 before
- * them; 9 comes last of them, and the lowest line at fault is answered; 17 is tested beside 7, after 6 and before 8. Of 10 to 16,
- * 18 and 19 a job answers the first that applies, by number, save that 18 is tested after 14 and before 15, that dushemqa_ruin
- * tests 19 after 13 and then 10 once more, for the sheet, and that dushemqa_report_house tests 14 before the lanes' 13. Its own
- * list says which a job has. */
+/* Why a job refused. 1 to 9 and 17 are the chart's: every job that is lent a chart to read tests them first, save that
+ * dushemqa_report_house tests 20 before them; 9 comes last of them, and the lowest line at fault is answered; 17 is tested beside
+ * 7, after 6 and before 8. 21 comes next, before 10. Of 10 to 16, 18 and 19 a job answers the first that applies, by number, save
+ * that 18 is tested after 14 and before 15, that dushemqa_ruin tests 19 after 13 and then 10 once more, for the sheet, and that
+ * dushemqa_report_house tests 14 before the lanes' 13. Its own list says which a job has. */
 enum dushemqa_number {
     DUSHEMQA_TAKEN = 0,             /* nothing was refused */
     DUSHEMQA_REFUSED_LENGTH = 1,    /* chart empty, over 55,308 bytes, or no multiple of 12 */
@@ -109,7 +116,8 @@ enum dushemqa_number {
     DUSHEMQA_REFUSED_RESTING = 17,  /* a meant move from a position of rest */
     DUSHEMQA_REFUSED_HELD = 18,     /* the plate's value at the run's position is not the one that the run holds */
     DUSHEMQA_REFUSED_EVER = 19,     /* the worth at the position is "ever": no play from there is unsafe */
-    DUSHEMQA_REFUSED_LANES = 20     /* no lanes, more than DUSHEMQA_MAX_LANES, or not as many reports as lanes */
+    DUSHEMQA_REFUSED_LANES = 20,    /* no lanes, more than DUSHEMQA_MAX_LANES, or not as many reports as lanes */
+    DUSHEMQA_REFUSED_NOT_SMALL = 21 /* positions outside 1 to 3, an index past the last, or a chart of another sort */
 };
 
 /* The conditions of a plate that dushemqa_check tests, at each position from 0 up:
@@ -137,10 +145,10 @@ typedef struct {
     uint16_t rounds; /* how many different pairs of value and step occur */
 } dushemqa_valued;
 
-/* What Writing answers. */
+/* What Writing and Small chart answer. */
 typedef struct {
     dushemqa_refusal refusal;
-    size_t length; /* the plate's bytes */
+    size_t length; /* the bytes of the plate or of the chart */
 } dushemqa_written;
 
 /* The numbers of a plate's first line after the count of positions. */
@@ -200,6 +208,12 @@ typedef struct {
     dushemqa_refusal refusal;
     size_t lines; /* how many lines were written: the good moves, or the positions of the play */
 } dushemqa_listed;
+
+/* What Small index answers. */
+typedef struct {
+    dushemqa_refusal refusal;
+    size_t index; /* the chart's index among the small charts of as many positions */
+} dushemqa_indexed;
 
 /* Valuing: the values, choices and steps of a chart's positions into the first numbers of three rows.
  *   chart, chart_length      the chart's bytes
@@ -345,6 +359,19 @@ dushemqa_house dushemqa_report_house(dushemqa_run *runs, size_t runs_length,
                                      const uint16_t *reports, size_t reports_length,
                                      const uint8_t *chart, size_t chart_length,
                                      const uint8_t *plate, size_t plate_length);
+
+/* Small chart: the chart with a given index among the small charts of a given count of positions, its marks as 0 or 1.
+ *   positions            the count of positions, 1 to DUSHEMQA_MAX_SMALL_POSITIONS
+ *   index                from 0; the last is 5 for 1 position, 899 for 2 and 2,000,375 for 3
+ *   chart, chart_length  a buffer for the chart; bytes past its last line stay. DUSHEMQA_MAX_SMALL_BYTES always suffice
+ * Refusals: 21 for the count of positions or the index; 10 if the chart doesn't fit. */
+dushemqa_written dushemqa_small_chart(size_t positions, size_t index,
+                                      uint8_t *chart, size_t chart_length);
+
+/* Small index: the index of a small chart. dushemqa_small_chart gives the same chart for it, with 0 for blank marks.
+ *   chart, chart_length  the chart's bytes
+ * Refusals: 1 to 9 and 17; 21 if the chart has more positions than DUSHEMQA_MAX_SMALL_POSITIONS, or a position of rest. */
+dushemqa_indexed dushemqa_small_index(const uint8_t *chart, size_t chart_length);
 
 #ifdef __cplusplus
 }

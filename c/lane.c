@@ -69,6 +69,15 @@ static const struct command commands[] = {
      "A line for each says that both ways agree, with the counts of positions and of rounds. Should they ever differ, it has\n"
      "what each way gives, at the first position where that is not the same. The status is 0 if they agree on all charts,\n"
      "1 if a chart is refused or they differ.\n"},
+    {"small", "POSITIONS INDEX", 2, 2, NULL, small_command, "the small chart with this index",
+     "Writes the chart with this INDEX among the small charts of so many POSITIONS to standard output, its marks as 0 or 1.\n"
+     "A small chart has 1 to 3 positions, each O or L: there are 6 of 1 position, 900 of 2 and 2,000,376 of 3, numbered from\n"
+     "0 in the order of numerals, position 0 the leading digit. Within a position O comes before L, then the mark, then\n"
+     "the meant set, then the disturbance set; a set counts 2 to the i for each target i.\n"},
+    {"index", "CHART...", 1, INT_MAX, NULL, index_command, "the index of each small chart",
+     "A line for each CHART says how many positions it has, and its index among the small charts of as many, for which 'lane\n"
+     "small' writes the same chart. A blank mark counts as 0. A chart of more than 3 positions, or with a position of rest,\n"
+     "has no index and is refused. The status is 0 if all have one, 1 if a chart is refused.\n"},
     {"collection", "FOLDER [--write]", 1, 1, "--write", collection_command, "every chart of a folder against its plate",
      "A line for each chart (*.chart, *.txt) in FOLDER, by name, and a summary. A chart is accepted, faulted (its plate is\n"
      "wrong), missing (its plate is), refused (it is no chart), or failed (a file can't be read or written). The plate lies\n"

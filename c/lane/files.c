@@ -56,6 +56,17 @@ bool read_plate(const char *name, struct text *plate)
     return read_file(name, DUSHEMQA_MAX_PLATE_BYTES, plate);
 }
 
+/* Looks at each file that a call names, in turn. The highest status of them is the call's. */
+enum status look_at_each(const struct call *call, enum status (*look_at)(const char *name))
+{
+    enum status status = TAKEN;
+    for (int i = 0; i < call->count; i++) {
+        enum status found = look_at(call->words[i]);
+        status = found > status ? found : status;
+    }
+    return status;
+}
+
 /* Bytes outside ASCII's printable ones are shown as \xNN: no file can command the terminal that shows it. */
 static bool printable(uint8_t byte)
 {
@@ -96,7 +107,7 @@ void trim(const char **word, size_t *length)
         (*word)++;
 }
 
-/* Reads digits, with blanks around them. A number beyond size_t becomes the largest, which is on no chart. */
+/* Reads digits, with blanks around them. A number beyond size_t becomes the largest, which is no position and no index. */
 bool decimal(const char *word, size_t length, size_t *number)
 {
     trim(&word, &length);

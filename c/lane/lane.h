@@ -33,6 +33,8 @@ enum status ruin_command(const struct call *call);
 enum status run_command(const struct call *call);
 enum status house_command(const struct call *call);
 enum status ways_command(const struct call *call);
+enum status small_command(const struct call *call);
+enum status index_command(const struct call *call);
 enum status collection_command(const struct call *call);
 enum status picture_command(const struct call *call);
 enum status explain_command(const struct call *call);
@@ -49,6 +51,7 @@ int take_file(const char *name, size_t limit, struct text *text);
 bool read_file(const char *name, size_t limit, struct text *text);
 bool read_chart(const char *name, struct text *chart);
 bool read_plate(const char *name, struct text *plate);
+enum status look_at_each(const struct call *call, enum status (*look_at)(const char *name));
 void complain(const char *name, const char *reason);
 bool flush_output(void);
 int shown_width(uint8_t byte);
@@ -135,6 +138,7 @@ extern const struct part parts[PARTS];
 unsigned parts_at_fault(const struct text *chart, dushemqa_refusal refusal);
 
 /* words.c: refusals and faults in words. */
+extern const char counts_of_small_charts[];
 const char *what_is_wrong(uint32_t number);
 bool about_a_sheet(uint32_t number);
 void show_chart_line(FILE *out, const struct text *chart, size_t line);

@@ -84,10 +84,5 @@ static enum status look_at(const char *name)
 
 enum status ways_command(const struct call *call)
 {
-    enum status status = TAKEN;
-    for (int i = 0; i < call->count; i++) {
-        enum status found = look_at(call->words[i]);
-        status = found > status ? found : status;
-    }
-    return status;
+    return look_at_each(call, look_at);
 }

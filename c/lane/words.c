@@ -40,9 +40,13 @@ static const struct refusal_words refusals[] = {
     [DUSHEMQA_REFUSED_EVER] = {NO_SHEET, "the worth at the position is \"ever\": no play from there is unsafe",
                                "the start of a way to ruin"},
     [DUSHEMQA_REFUSED_LANES] = {NO_SHEET, "no lanes, more than 64, or not as many reports as lanes", "a row of a house"},
+    [DUSHEMQA_REFUSED_NOT_SMALL] = {NO_SHEET, "positions outside 1 to 3, an index past the last, or a chart of another sort",
+                                    "the positions and the index that are given, or the whole chart"},
 };
 
 enum { REFUSALS = sizeof refusals / sizeof refusals[0] };
+
+const char counts_of_small_charts[] = "there are 6 small charts of 1 position, 900 of 2 and 2,000,376 of 3, numbered from 0";
 
 struct condition_words {
     const char *name;
@@ -108,6 +112,9 @@ static void explain(unsigned number)
         printf("    a position of rest (R) has none, and is not refused for it\n");
     if (number == DUSHEMQA_REFUSED_CHOICE)
         printf("    at a position of rest (R) it is - too\n");
+    if (number == DUSHEMQA_REFUSED_NOT_SMALL)
+        printf("    %s\n    of another sort is a chart of more positions, or with a position of rest (R)\n",
+               counts_of_small_charts);
     if (number != DUSHEMQA_REFUSED_FAULT)
         return;
     printf("    the conditions, at each position from 0 up:\n");

@@ -96,6 +96,13 @@ pub struct House {
     pub moved: usize,
 }
 
+#[repr(C)]
+#[derive(Clone, Copy, Debug, Default, PartialEq, Eq)]
+pub struct Indexed {
+    pub refusal: Refusal,
+    pub index: usize,
+}
+
 /// A way of Valuing: the chart, and the rows for values, choices and steps.
 pub type Valuing = fn(&[u8], &mut [u16], &mut [u16], &mut [u16]) -> Valued;
 
@@ -123,6 +130,8 @@ extern "C" {
                      position: usize, sheet: *mut u8, sheet_length: usize) -> Listed;
     fn dushemqa_report_house(runs: *mut Run, runs_length: usize, reports: *const u16, reports_length: usize,
                              chart: *const u8, chart_length: usize, plate: *const u8, plate_length: usize) -> House;
+    fn dushemqa_small_chart(positions: usize, index: usize, chart: *mut u8, chart_length: usize) -> Written;
+    fn dushemqa_small_index(chart: *const u8, chart_length: usize) -> Indexed;
 }
 
 // In each call below a slice gives a pointer that is not null, as many elements as its length says, and, where it is
@@ -234,4 +243,12 @@ pub fn report_house(runs: &mut [Run], reports: &[u16], chart: &[u8], plate: &[u8
             plate.len(),
         )
     }
+}
+
+pub fn small_chart(positions: usize, index: usize, chart: &mut [u8]) -> Written {
+    unsafe { dushemqa_small_chart(positions, index, chart.as_mut_ptr(), chart.len()) }
+}
+
+pub fn small_index(chart: &[u8]) -> Indexed {
+    unsafe { dushemqa_small_index(chart.as_ptr(), chart.len()) }
 }

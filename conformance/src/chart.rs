@@ -138,6 +138,11 @@ fn small_position(n: usize, kind: usize) -> Position {
     }
 }
 
+/// The positions with meant moves that a chart of `n` can have, each once, in no order that a document gives.
+pub fn chosen_positions(n: usize) -> impl Iterator<Item = Position> {
+    (0..chosen_kinds(n)).map(move |kind| small_position(n, kind))
+}
+
 /// The places of the ones in a number.
 fn members(set: usize) -> Vec<u16> {
     (0..16).filter(|place| set >> place & 1 == 1).collect()

@@ -5,6 +5,7 @@ pub mod blanks;
 pub mod capi;
 pub mod chart;
 pub mod houses;
+pub mod indices;
 pub mod measure;
 pub mod model;
 pub mod parts;

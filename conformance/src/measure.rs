@@ -1,5 +1,6 @@
 //! Measuring programs side by side: the time of a call, and the stack that a call uses.
 
+use std::hint::black_box;
 use std::thread;
 use std::time::{Duration, Instant};
 
@@ -23,6 +24,12 @@ pub fn times<const N: usize>(mut programs: [Program; N]) -> [f64; N] {
         }
     }
     taken.map(median)
+}
+
+/// A program that takes the things in turn: the same one again and again would teach the processor its branches.
+pub fn in_turn<'a, T>(things: &'a [T], mut call: impl FnMut(&T) + 'a) -> impl FnMut() + 'a {
+    let mut turns = things.iter().cycle();
+    move || call(black_box(turns.next().expect("there is a thing")))
 }
 
 /// How many calls make a batch. Finding it out warms up the program too.
@@ -69,7 +76,7 @@ pub fn stack(program: impl FnOnce() + Send) -> usize {
 #[inline(never)]
 fn painted_call(program: impl FnOnce()) -> usize {
     let mark = 0u64;
-    let top = std::hint::black_box(&raw const mark) as usize;
+    let top = black_box(&raw const mark) as usize;
     paint(top);
     program();
     top - deepest(top)

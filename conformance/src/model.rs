@@ -8,16 +8,18 @@ mod parse;
 mod plate;
 mod ruin;
 mod run;
+mod small;
 mod values;
 mod weigh;
 
-use crate::capi::{Compared, FirstLine, House, Listed, Reading, Refusal, Run, Step, Valued, Written};
+use crate::capi::{Compared, FirstLine, House, Indexed, Listed, Reading, Refusal, Run, Step, Valued, Written};
 use crate::chart::Chart;
 use std::cell::OnceCell;
 
 pub use house::LANES;
 pub use plate::{plate_text, Plate};
 pub use ruin::{through, Play, Visit, Ways};
+pub use small::{charts_in_order, COUNTS};
 pub use values::{summed, Valuation};
 
 /// Three rows: values, choices, steps. They are empty where a job refuses.
@@ -213,15 +215,39 @@ impl<'a> Subject<'a> {
         }
         ruin::shortest(&Ways { chart, choices }, position as u16).ok_or(refused(19))
     }
+
+    /// The index of a small chart.
+    pub fn small_index(&self) -> Indexed {
+        match self.chart().and_then(|chart| small::index(chart).ok_or(refused(21))) {
+            Ok(index) => Indexed { refusal: Refusal::default(), index },
+            Err(refusal) => Indexed { refusal, index: 0 },
+        }
+    }
+}
+
+/// The small chart with some index, with a buffer of this length lent: its text, if there is such a chart.
+pub fn small_chart(text: Option<&[u8]>, length: usize) -> (Written, Vec<u8>) {
+    match text.ok_or(refused(21)).and_then(|text| fitting(text.to_vec(), length)) {
+        Ok(text) => (Written { refusal: Refusal::default(), length: text.len() }, text),
+        Err(refusal) => (Written { refusal, length: 0 }, Vec::new()),
+    }
 }
 
 /// Ruin, with a buffer of this length lent for its play.
 pub fn ruin(play: &Result<Play, Refusal>, length: usize) -> (Listed, Vec<u8>) {
     let sheet = play.as_ref().map(|play| ruin::sheet(play)).map_err(|&refusal| refusal);
-    match sheet.and_then(|sheet| if length < sheet.len() { Err(refused(10)) } else { Ok(sheet) }) {
+    match sheet.and_then(|sheet| fitting(sheet, length)) {
         Ok(sheet) => (Listed { refusal: Refusal::default(), lines: sheet.len() / 12 }, sheet),
         Err(refusal) => (Listed { refusal, lines: 0 }, Vec::new()),
     }
+}
+
+/// Refusal 10: a text fits into a buffer of this length.
+fn fitting(text: Vec<u8>, length: usize) -> Result<Vec<u8>, Refusal> {
+    if length < text.len() {
+        return Err(refused(10));
+    }
+    Ok(text)
 }
 
 /// Refusal 10: each lent row has a number for each position.

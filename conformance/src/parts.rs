@@ -6,6 +6,7 @@ pub mod damaged;
 pub mod drawn;
 pub mod examples;
 pub mod houses;
+pub mod indexed;
 pub mod pairs;
 pub mod rest;
 pub mod setting;

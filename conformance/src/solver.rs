@@ -1,14 +1,15 @@
-//! The six long jobs once more, written for speed: linear time in the chart, local arrays and no heap. The timings set
-//! the library beside this, and the test holds it to the model.
+//! The six long jobs and the two on small charts once more, written for speed: linear time in the chart, local arrays and no
+//! heap. The timings set the library beside this, and the test holds it to the model.
 
 mod board;
 mod field;
 pub mod plate;
 mod rounds;
 pub mod sheet;
+mod small;
 mod way;
 
-use crate::capi::{Listed, Refusal, Valued, Written, NONE};
+use crate::capi::{Indexed, Listed, Refusal, Valued, Written, NONE};
 use crate::chart::POSITIONS;
 use board::Board;
 use plate::{Plate, LINE};
@@ -164,6 +165,40 @@ fn ruined(chart: &[u8], choices: &[u16], position: usize, buffer: &mut [u8]) -> 
     }
     ways.write(position, buffer);
     Ok(lines)
+}
+
+/// The small chart with an index.
+pub fn small_chart(positions: usize, index: usize, buffer: &mut [u8]) -> Written {
+    let refused = |number| Written { refusal: refused(number), length: 0 };
+    if !(1..=small::MOST).contains(&positions) || index >= small::count(positions) {
+        return refused(21);
+    }
+    let chart = small::Chart::of_index(positions, index);
+    let length = chart.length();
+    if buffer.len() < length {
+        return refused(10);
+    }
+    chart.write(&mut buffer[..length]);
+    Written { refusal: Refusal::default(), length }
+}
+
+/// The index of a small chart.
+pub fn small_index(chart: &[u8]) -> Indexed {
+    match indexed(chart) {
+        Ok(index) => Indexed { refusal: Refusal::default(), index },
+        Err(refusal) => Indexed { refusal, index: 0 },
+    }
+}
+
+fn indexed(chart: &[u8]) -> Result<usize, Refusal> {
+    if board::header(chart)? > small::MOST {
+        <Board>::empty().read(chart)?;
+        return Err(refused(21));
+    }
+    // A board for any chart takes longer to clear than a small chart to read.
+    let mut board = small::Board::empty();
+    board.read(chart)?;
+    small::Chart::of_board(&board).map(|chart| chart.index()).ok_or(refused(21))
 }
 
 /// The plate of a chart.

@@ -1,7 +1,7 @@
 //! The stack that each of the library's jobs uses.
 
 use crate::capi::{self, Run};
-use crate::chart::{Chart, Owner, MOVES, POSITIONS};
+use crate::chart::{Chart, Owner, Position, MOVES, POSITIONS};
 use crate::measure::stack;
 use crate::model::{Subject, LANES};
 use crate::tally::JOBS;
@@ -10,7 +10,7 @@ use std::array::from_fn;
 /// The most that a call wants, as the header says.
 pub const MOST: usize = 96 << 10;
 
-/// The bytes of stack of each job on an accepted chart's text with its own plate.
+/// The bytes of stack of each job on an accepted chart's text with its own plate, and of those on small charts.
 pub fn stacks(text: &[u8]) -> Vec<(&'static str, usize)> {
     let subject = Subject::new(text);
     let chart = subject.chart().expect("the chart is accepted");
@@ -42,7 +42,23 @@ pub fn stacks(text: &[u8]) -> Vec<(&'static str, usize)> {
         stack(|| assert_eq!(capi::report_house(&mut runs, &reports, text, plate).moved, LANES)),
         stack(|| taken(capi::value_plain(text, values, others, steps).refusal.number)),
     ];
-    JOBS.into_iter().zip(bytes).collect()
+    JOBS.into_iter().zip(bytes.into_iter().chain(small_stacks(text))).collect()
+}
+
+/// The longest small chart by its index, and its index or that of the given chart, which may be of another sort.
+fn small_stacks(text: &[u8]) -> [usize; 2] {
+    let all = vec![0, 1, 2];
+    let position = Position { owner: Owner::Console, safe: false, meant: all.clone(), disturbances: all };
+    let chart = Chart { positions: vec![position; 3] }.text();
+    let index = Subject::new(&chart).small_index().index;
+    let mut lent = vec![0; chart.len()];
+    let written = stack(|| assert_eq!(capi::small_chart(3, index, &mut lent).length, chart.len()));
+    [written, index_stack(&chart).max(index_stack(text))]
+}
+
+fn index_stack(text: &[u8]) -> usize {
+    let answer = Subject::new(text).small_index();
+    stack(|| assert_eq!(capi::small_index(text), answer))
 }
 
 /// A run that stands at 0 of a chart, and a position that can follow.

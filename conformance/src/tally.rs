@@ -1,20 +1,25 @@
 //! What was tried: inputs, calls, how often each job gave each refusal, and what was seen of blanks, of good moves, of
-//! positions of rest, of reports with other texts, of ways to ruin and of houses of lanes.
+//! positions of rest, of reports with other texts, of ways to ruin, of houses of lanes and of small charts.
 
-use crate::{blanks, houses, rests, sheets, swaps, ways};
+use crate::{blanks, houses, indices, rests, sheets, swaps, ways};
 
-/// The jobs, in the order of the header, and Valuing the plain way.
-pub const JOBS: [&str; 12] =
-    ["value", "write", "read", "check", "weigh", "compare", "start", "report", "good", "ruin", "house", "plain"];
+/// The jobs, in the order in which the documents name them.
+pub const JOBS: [&str; 14] = [
+    "value", "write", "read", "check", "weigh", "compare", "start", "report", "good", "ruin", "house", "plain",
+    "small", "index",
+];
+
+/// The job that is lent no chart to read, and so has no refusal of a chart.
+const SMALL: usize = 12;
 
 /// The refusals of the table, with 0 for none.
-const NUMBERS: usize = 21;
+const NUMBERS: usize = 22;
 
 /// The refusals from 10 to 16 and from 18 on that each job has.
 #[rustfmt::skip]
 const BEYOND: [&[usize]; JOBS.len()] = [
     &[10], &[10], &[10, 11], &[11, 14], &[10, 12], &[10, 11, 12, 14], &[11, 13, 14], &[11, 13, 14, 15, 16, 18], &[10],
-    &[10, 12, 13, 19], &[11, 13, 14, 15, 16, 18, 20], &[10],
+    &[10, 12, 13, 19], &[11, 13, 14, 15, 16, 18, 20], &[10], &[10, 21], &[21],
 ];
 
 /// Fewer sightings than this of a refusal or a condition are too few to count as a test of it.
@@ -49,6 +54,9 @@ pub struct Tally {
     pub ways: [u64; ways::SIGHTS.len()],
     /// How often each of the sights of houses was seen.
     pub houses: [u64; houses::SIGHTS.len()],
+    /// How often each of the sights of small charts and of their indices was seen.
+    pub small_charts: [u64; indices::CHARTS.len()],
+    pub small_indices: [u64; indices::INDICES.len()],
 }
 
 impl Tally {
@@ -70,6 +78,8 @@ impl Tally {
         add_each(&mut self.swaps, &other.swaps);
         add_each(&mut self.ways, &other.ways);
         add_each(&mut self.houses, &other.houses);
+        add_each(&mut self.small_charts, &other.small_charts);
+        add_each(&mut self.small_indices, &other.small_indices);
     }
 
     /// Counts what a report with other texts shows.
@@ -105,6 +115,8 @@ impl Tally {
         print_sights("reports with other texts", &swaps::SIGHTS, &self.swaps);
         print_sights("ways to ruin", &ways::SIGHTS, &self.ways);
         print_sights("houses", &houses::SIGHTS, &self.houses);
+        print_sights("small charts", &indices::CHARTS, &self.small_charts);
+        print_sights("indices of charts", &indices::INDICES, &self.small_indices);
     }
 
     /// What was seen too seldom for this to be a test of it, if all counts of inputs were divided by `divisor`.
@@ -137,7 +149,7 @@ impl Tally {
     }
 
     /// What is seen of inputs and calls beside the refusals.
-    fn sights(&self) -> [Sights<'_>; 7] {
+    fn sights(&self) -> [Sights<'_>; 9] {
         [
             ("a blank", &blanks::SIGHTS, &self.blanks),
             ("a sheet of good moves", &sheets::SIGHTS, &self.sheets),
@@ -146,6 +158,8 @@ impl Tally {
             ("a report with other texts", &swaps::SIGHTS, &self.swaps),
             ("a way to ruin", &ways::SIGHTS, &self.ways),
             ("a house", &houses::SIGHTS, &self.houses),
+            ("a small chart", &indices::CHARTS, &self.small_charts),
+            ("an index", &indices::INDICES, &self.small_indices),
         ]
     }
 }
@@ -162,7 +176,11 @@ fn print_sights(of: &str, names: &[&str], counts: &[u64]) {
     sights.chunks(4).for_each(|some| println!("{of}: {}", some.join(", ")));
 }
 
-/// Whether a job has a refusal. All have 1 to 9 and 17, the chart's.
+/// Whether a job has a refusal. All that read a chart have 1 to 9 and 17.
 fn has(job: usize, number: usize) -> bool {
-    number < 10 || number == 17 || BEYOND[job].contains(&number)
+    match number {
+        0 => true,
+        1..=9 | 17 => job != SMALL,
+        _ => BEYOND[job].contains(&number),
+    }
 }

@@ -1,8 +1,9 @@
 //! One call of the library set against the model: the whole answer, and every lent byte or number after the call.
 
-use crate::capi::{self, House, Refusal, Run, Step, Valuing, NONE};
+use crate::capi::{self, House, Indexed, Refusal, Run, Step, Valuing, NONE};
 use crate::chart::Chart;
 use crate::houses::Rows;
+use crate::indices::{self, Wanted};
 use crate::model::{self, plate_text, Plate, Subject, LANES};
 use crate::swaps::sum_kept;
 use crate::tally::{Tally, JOBS};
@@ -84,6 +85,7 @@ struct Given<'a> {
     position: Option<usize>,
     runs: &'a [Run],
     reports: &'a [u16],
+    small: Option<(usize, usize)>,
 }
 
 /// Calls the library and the model alike and counts; ends the program at the first mismatch.
@@ -274,6 +276,46 @@ impl Trial {
         (answer, after)
     }
 
+    /// A small chart by its index, by the library and by the fast solver of the timings.
+    pub fn small_chart(&mut self, wanted: Wanted, length: usize) {
+        let Wanted { positions, index, text } = wanted;
+        let (answer, written) = model::small_chart(text, length);
+        let (mut lent, mut lent_again) = (Lent::new(length), Lent::new(length));
+        let got = capi::small_chart(positions, index, lent.lend());
+        let given = Given { lengths: &[length], small: Some((positions, index)), ..Given::default() };
+        self.settle(12, answer.refusal, got == answer && lent.holds(&written), || {
+            let subject = Subject::new(text.unwrap_or_default());
+            show(12, &subject, &[], &given, &(answer, escaped(&written)), &(got, escaped(lent.shown())))
+        });
+        for (count, seen) in self.tally.small_charts.iter_mut().zip(wanted.sights(length)) {
+            *count += u64::from(seen);
+        }
+        let found = solver::small_chart(positions, index, lent_again.lend());
+        assert!(found == answer && lent_again.holds(&written), "solver's small chart: {positions} positions, {index}");
+    }
+
+    /// The small chart with room for it and no more, with one byte less, and with so many more.
+    pub fn small_chart_by_room(&mut self, wanted: Wanted, more: usize) {
+        let room = wanted.text.map_or(0, <[u8]>::len);
+        self.small_chart(wanted, room);
+        self.small_chart(wanted, room + more);
+        if room > 0 {
+            self.small_chart(wanted, room - 1);
+        }
+    }
+
+    /// The index of a small chart, by the library and by the fast solver. Gives the answer.
+    pub fn small_index(&mut self, subject: &Subject) -> Indexed {
+        let answer = subject.small_index();
+        let got = capi::small_index(subject.text);
+        self.settle(13, answer.refusal, got == answer, || show(13, subject, &[], &Given::default(), &answer, &got));
+        for (count, seen) in self.tally.small_indices.iter_mut().zip(indices::sights(subject)) {
+            *count += u64::from(seen);
+        }
+        assert_eq!(solver::small_index(subject.text), answer, "solver's small index: {}", escaped(subject.text));
+        answer
+    }
+
     /// A positional controller is optimal exactly when all its choices at O are listed.
     pub fn controller(&mut self, subject: &Subject, chart: &Chart, choices: &[u16]) {
         let (_, worths) = subject.weigh(choices, chart.len());
@@ -401,8 +443,8 @@ fn show(job: usize, subject: &Subject, plate: &[u8], given: &Given, model: &dyn 
         text.chunks(length).map(|line| format!("  {}\n", line.escape_ascii())).collect::<String>()
     };
     println!(
-        "mismatch in {}\nchart\n{}plate\n{}choices {:?}, lengths {:?}, run {:?}, position {:?}, runs {:?}, reports {:?}\n\
-         model   {model:?}\nlibrary {library:?}",
+        "mismatch in {}\nchart\n{}plate\n{}choices {:?}, lengths {:?}, run {:?}, position {:?}, runs {:?}, reports {:?}, \
+         positions and index {:?}\nmodel   {model:?}\nlibrary {library:?}",
         JOBS[job],
         lines(subject.text, 12),
         lines(plate, 22),
@@ -412,5 +454,6 @@ fn show(job: usize, subject: &Subject, plate: &[u8], given: &Given, model: &dyn 
         given.position,
         given.runs,
         given.reports,
+        given.small,
     );
 }

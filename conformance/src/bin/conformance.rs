@@ -1,11 +1,11 @@
 //! The test: the library, through its C interface, against the model. It ends with status 1 at the first mismatch, and
 //! also if a refusal, a condition, a use of blanks, a kind of sheet, a position of rest of some kind, a swap of texts of
-//! some kind, a way to ruin of some kind or a house of some kind was hardly ever seen, or if a call wants more stack than the
-//! header says. A number as the argument divides the counts of inputs, for a quick look.
+//! some kind, a way to ruin of some kind, a house of some kind or a call on small charts of some kind was hardly ever seen, or
+//! if a call wants more stack than the header says. A number as the argument divides the counts of inputs, for a quick look.
 
 use conformance::blanks::leave_out;
 use conformance::chart::{MOVES, POSITIONS};
-use conformance::parts::{controllers, damaged, drawn, examples, houses, pairs, small, swapped, ways, Share};
+use conformance::parts::{controllers, damaged, drawn, examples, houses, indexed, pairs, small, swapped, ways, Share};
 use conformance::shapes::{all_good, blocks, lane_chain, rest_chain};
 use conformance::stacks::{stacks, MOST};
 use conformance::tally::Tally;
@@ -23,10 +23,11 @@ fn main() -> ExitCode {
     note(&mut total, "2  all controllers of small charts", &shared(controllers::part, divisor));
     note(&mut total, "3  pseudo-random charts, all jobs, with runs", &shared(drawn::part, divisor));
     note(&mut total, "4  damaged charts, plates, choices, runs and buffers", &shared(damaged::part, divisor));
-    note(&mut total, "5  blank marks beside 0, all jobs", &shared(pairs::part, divisor));
+    note(&mut total, "5  blank marks beside 0, all jobs but the index", &shared(pairs::part, divisor));
     note(&mut total, "6  runs with changing texts", &shared(swapped::part, divisor));
     note(&mut total, "7  ways to ruin", &shared(ways::part, divisor));
     note(&mut total, "8  houses of lanes", &shared(houses::part, divisor));
+    note(&mut total, "9  all small charts by their index, and other charts", &shared(indexed::part, divisor));
     println!();
     total.print();
     let mut wrong = total.missing(divisor);

@@ -171,7 +171,7 @@ pub fn part() -> Tally {
     trial.tally
 }
 
-fn text(lines: &[&str]) -> Vec<u8> {
+pub(super) fn text(lines: &[&str]) -> Vec<u8> {
     lines.iter().flat_map(|line| [line.as_bytes(), b"\n"].concat()).collect()
 }
 

@@ -1,6 +1,6 @@
 //! Part 5: charts with blank marks, each beside the same chart with 0 in their place. On both every job gives the same
 //! answer and leaves the same in all that was lent, be the inputs good or damaged. The library is set against itself here:
-//! what the model says of either chart has no part in it.
+//! what the model says of either chart has no part in it. The index of a small chart has its pairs in part 9.
 
 use super::setting::{Besides, Setting, KINDS};
 use super::Share;
@@ -15,6 +15,9 @@ use crate::trial::{Lent, Trial};
 use crate::ways::LINE;
 
 const PAIRS: usize = 40_000;
+
+/// How many jobs are called: all but those on small charts.
+const CALLED: usize = JOBS.len() - 2;
 
 pub fn part(share: Share) -> Tally {
     let mut trial = Trial::default();
@@ -66,7 +69,7 @@ fn pair(trial: &mut Trial, random: &mut Random, setting: &Setting) {
     let (one, other) = (outcome(blank, setting, &besides, room, rows), outcome(&filled, setting, &besides, room, rows));
     assert!(one == other, "blank marks and 0: {}\n{one:?}\n{other:?}", blank.escape_ascii());
     trial.input(&Subject::new(blank));
-    trial.tally.calls += 2 * JOBS.len() as u64;
+    trial.tally.calls += 2 * CALLED as u64;
     match one.checked.number {
         1..=9 | 17 => trial.tally.pairs_refused += 1,
         _ => trial.tally.pairs_taken += 1,

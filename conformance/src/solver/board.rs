@@ -7,24 +7,19 @@ use crate::chart::{Owner, MOVES, POSITIONS};
 const LINE: usize = 12;
 const LONGEST: usize = LINE * (1 + POSITIONS + MOVES);
 
-pub struct Board {
+/// It has room for N positions and M moves in E groups, 2 N + 1: for any chart where nothing else is said.
+pub struct Board<const N: usize = POSITIONS, const M: usize = MOVES, const E: usize = { 2 * POSITIONS + 1 }> {
     pub n: usize,
-    pub owner: [Owner; POSITIONS],
-    pub safe: [bool; POSITIONS],
-    to: [u16; MOVES],
+    pub owner: [Owner; N],
+    pub safe: [bool; N],
+    to: [u16; M],
     /// Where the moves of a group end: group 2 v + 1 has the meant moves of v, group 2 v + 2 its disturbances.
-    ends: [u16; 2 * POSITIONS + 1],
+    ends: [u16; E],
 }
 
-impl Board {
-    pub fn empty() -> Board {
-        Board {
-            n: 0,
-            owner: [Owner::Nobody; POSITIONS],
-            safe: [false; POSITIONS],
-            to: [0; MOVES],
-            ends: [0; 2 * POSITIONS + 1],
-        }
+impl<const N: usize, const M: usize, const E: usize> Board<N, M, E> {
+    pub fn empty() -> Board<N, M, E> {
+        Board { n: 0, owner: [Owner::Nobody; N], safe: [false; N], to: [0; M], ends: [0; E] }
     }
 
     pub fn meant(&self, v: usize) -> &[u16] {
@@ -51,10 +46,8 @@ impl Board {
         }
     }
 
+    /// Reads a chart that there is room for.
     pub fn read(&mut self, text: &[u8]) -> Result<(), Refusal> {
-        if text.is_empty() || text.len() > LONGEST || text.len() % LINE != 0 {
-            return Err(refused(1));
-        }
         self.n = header(text)?;
         let (positions, moves) = text[LINE..].split_at(LINE * self.n);
         self.read_positions(positions)?;
@@ -128,8 +121,11 @@ impl Board {
     }
 }
 
-/// The count of positions.
-fn header(text: &[u8]) -> Result<usize, Refusal> {
+/// The count of positions by the first line.
+pub fn header(text: &[u8]) -> Result<usize, Refusal> {
+    if text.is_empty() || text.len() > LONGEST || text.len() % LINE != 0 {
+        return Err(refused(1));
+    }
     let (letter, n, m) = fields(&text[..LINE], field::number).ok_or(refused(2))?;
     if letter != b'H' {
         return Err(refused(2));

@@ -18,6 +18,8 @@ use Rattle.comparing.specs.declared.Compared.{Compared}
 use Rattle.comparing.specs.declared.Compared.the-variants.{Agree, Differ, Refused as NotCompared}
 use Rattle.listing.specs.declared.Listed.{Listed}
 use Rattle.listing.specs.declared.Listed.the-variants.{Lines, Refused as NotListed}
+use Rattle.indexing.specs.declared.Indexed.{Indexed}
+use Rattle.indexing.specs.declared.Indexed.the-variants.{Index, Refused as NotIndexed}
 use Rattle.run.specs.Running.{noRun}
 use Rattle.run.specs.declared.Run.{Run}
 use Rattle.run.specs.declared.Started.{Started}
@@ -30,6 +32,7 @@ use Rattle.answers.specs.declared.WrittenNumbers.{WrittenNumbers}
 use Rattle.answers.specs.declared.ReadingNumbers.{ReadingNumbers}
 use Rattle.answers.specs.declared.ComparedNumbers.{ComparedNumbers}
 use Rattle.answers.specs.declared.ListedNumbers.{ListedNumbers}
+use Rattle.answers.specs.declared.IndexedNumbers.{IndexedNumbers}
 use Rattle.house.specs.declared.Housed.{Housed}
 use Rattle.house.specs.declared.Housed.the-variants.{Moved, Refused as NotMoved}
 use Rattle.answers.specs.declared.Step.{Step}
@@ -63,6 +66,10 @@ comparedNumbers (NotCompared x) = record { refusal = numbersOf x; agree = false;
 abbrev pub listedNumbers : Listed → ListedNumbers
 listedNumbers (Lines lines) = record { refusal = noNumbers; lines = lines }
 listedNumbers (NotListed x) = record { refusal = numbersOf x; lines = 0 }
+
+abbrev pub indexedNumbers : Indexed → IndexedNumbers
+indexedNumbers (Index index) = record { refusal = noNumbers; index = index }
+indexedNumbers (NotIndexed x) = record { refusal = numbersOf x; index = 0 }
 
 -- a refusal, with the run that comes back
 abbrev pub refusedStep : Refusal → Run → Step

@@ -1,10 +1,11 @@
 // The jobs' answers as C has them: numbers in structs that lie as C's do. Each is the result's own numbers, or the refusal's by the one
 // table and zeros.
 ghost use mathlib.Core.Path.{_≡_};
-ghost use Rattle.answers.specs.Numbers.{answerNumbers, checkedNumbers, comparedNumbers, housedNumbers, listedNumbers, readingNumbers, refusedStep, reportedNumbers, startedNumbers, valuedNumbers, weighedNumbers, writtenNumbers};
+ghost use Rattle.answers.specs.Numbers.{answerNumbers, checkedNumbers, comparedNumbers, housedNumbers, indexedNumbers, listedNumbers, readingNumbers, refusedStep, reportedNumbers, startedNumbers, valuedNumbers, weighedNumbers, writtenNumbers};
 use checking::Checked;
 use comparing::Compared;
 use house::Housed;
+use indexing::Indexed;
 use listing::Listed;
 use reading::Reading;
 use refusal::Numbers;
@@ -50,6 +51,12 @@ pub struct ComparedNumbers {
 pub struct ListedNumbers {
     pub refusal: Numbers,
     pub lines: usize,
+}
+
+#[repr(C)]
+pub struct IndexedNumbers {
+    pub refusal: Numbers,
+    pub index: usize,
 }
 
 // A run that was started or moved on, or that a refusal left as it was.
@@ -174,6 +181,21 @@ pub fn listed_numbers(answer: Listed) -> ListedNumbers
         Listed::Refused(r) => ListedNumbers {
             refusal: r.numbers(),
             lines: 0,
+        },
+    }
+}
+
+pub fn indexed_numbers(answer: Indexed) -> IndexedNumbers
+    ensures { λ r. ⌜ r ≡ indexedNumbers answer ⌝ }
+{
+    match answer {
+        Indexed::Index(index) => IndexedNumbers {
+            refusal: Numbers::none(),
+            index,
+        },
+        Indexed::Refused(r) => IndexedNumbers {
+            refusal: r.numbers(),
+            index: 0,
         },
     }
 }

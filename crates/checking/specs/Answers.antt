@@ -8,7 +8,7 @@ use Rattle.chart.specs.Meaning.{arenaOf}
 use Rattle.chart.specs.Examined.{examined}
 use Rattle.rows.specs.declared.Chart.{Chart}
 use Rattle.refusal.specs.declared.Refusal.{Refusal}
-use Rattle.refusal.specs.declared.Refusal.the-variants.{Lanes, Chart as OfChart, Short, Plate, Choice, Position, Ever, Fault, Held, Move, Seen}
+use Rattle.refusal.specs.declared.Refusal.the-variants.{Lanes, Chart as OfChart, NotSmall, Short, Plate, Choice, Position, Ever, Fault, Held, Move, Seen}
 use Rattle.chart.specs.declared.Examination.the-variants.{Accepted as Taken, Refused as Turned}
 use Rattle.plate.specs.Form.{OfForm, BadAt}
 use Rattle.plate.specs.Read.{headerIn, valueIn, choiceIn, stepIn}
@@ -44,6 +44,7 @@ RefusedIs text plate (OfChart r) = examined text ≡ Turned r
 RefusedIs text plate (Plate line) = FormIs text plate line
 RefusedIs text plate (Fault v c) = FaultIs text plate v c
 RefusedIs text plate Lanes = ⊥
+RefusedIs text plate NotSmall = ⊥
 RefusedIs text plate Short = ⊥
 RefusedIs text plate Choice = ⊥
 RefusedIs text plate Position = ⊥

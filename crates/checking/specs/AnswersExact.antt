@@ -9,7 +9,7 @@ use Rattle.chart.specs.Examined.{examined}
 use Rattle.rows.specs.declared.Chart.{Chart}
 use Rattle.refusal.specs.declared.Misdrawn.{Misdrawn}
 use Rattle.refusal.specs.declared.Refusal.{Refusal}
-use Rattle.refusal.specs.declared.Refusal.the-variants.{Lanes, Chart as OfChart, Short, Plate, Choice, Position, Ever, Fault, Held, Move, Seen}
+use Rattle.refusal.specs.declared.Refusal.the-variants.{Lanes, Chart as OfChart, NotSmall, Short, Plate, Choice, Position, Ever, Fault, Held, Move, Seen}
 use Rattle.chart.specs.declared.Examination.{Examination}
 use Rattle.chart.specs.declared.Examination.the-variants.{Accepted as Taken, Refused as Turned}
 use Rattle.plate.specs.Form.{OfForm}
@@ -82,6 +82,7 @@ module _ (text plate : List ℕ) where
       refusal (Fault v c) is =
           accepted-of (is .chart) (is .taken) (is .form) (FaultAt v c) (faulty-at v c is)
       refusal Lanes is = absurd is
+      refusal NotSmall is = absurd is
       refusal Short is = absurd is
       refusal Choice is = absurd is
       refusal Position is = absurd is

@@ -18,6 +18,7 @@ use Rattle.weighing.specs.declared.Weighed.{Weighed}
 use Rattle.listing.specs.Listing.{ListedIs}
 use Rattle.listing.specs.declared.Listed.{Listed}
 use Rattle.ruin.specs.Ruin.{RuinedIs}
+use Rattle.indexing.specs.Indexing.{indexed}
 use Rattle.comparing.specs.Compared.{ComparedIs}
 use Rattle.comparing.specs.declared.Compared.{Compared}
 use Rattle.run.specs.Running.{started, reported}
@@ -47,6 +48,8 @@ pub record SameAnswers (text other : List ℕ) : Type 0 where
   pub listing : {out out₁ out₂ : List ℕ} {r s : Listed} → ListedIs text out out₁ r → ListedIs other out out₂ s → (r ≡ s) × (out₁ ≡ out₂)
   pub ruin : {choices out out₁ out₂ : List ℕ} {position : ℕ} {r s : Listed}
       → RuinedIs text choices position out out₁ r → RuinedIs other choices position out out₂ s → (r ≡ s) × (out₁ ≡ out₂)
+  -- "a blank mark counts as 0" (document 02, order 9)
+  pub indexing : indexed text ≡ indexed other
   pub start : (plate : List ℕ) (position : ℕ) → started text plate position ≡ started other plate position
   pub report : (run : Run) (plate : List ℕ) (to : ℕ) → reported run text plate to ≡ reported run other plate to
   pub house : {runs after₁ after₂ : List Run} {reports plate : List ℕ} {r s : Housed}

@@ -33,6 +33,7 @@ use Rattle.weighing.specs.declared.Weighed.{Weighed}
 use Rattle.weighing.specs.declared.Weighed.the-variants.{Done, Refused as WeighingRefused}
 use Rattle.comparing.specs.Comparing.{comparedForm, comparedBy, compared}
 use Rattle.comparing.specs.declared.Compared.the-variants.{Refused as ComparingRefused}
+use Rattle.indexing.specs.Indexing.{indexedBy, indexed}
 use Rattle.listing.specs.Listing.{goodSheet, listedBy, listed, ListedIs}
 use Rattle.listing.specs.declared.Listed.{Listed}
 use Rattle.listing.specs.declared.Listed.the-variants.{Lines, Refused as ListingRefused}
@@ -151,6 +152,10 @@ module _ (text other : List ℕ) (same : SameChart text other) where
       go (Lines k) e = a .taken k e ∙ ap (λ (x : Arena). goodSheet x ++ drop (k * 12) out) (same .arena) ∙ sym (b .taken k (sym answers ∙ e))
       go (ListingRefused x) e = a .refused x e ∙ sym (b .refused x (sym answers ∙ e))
 
+  indexing-same : indexed text ≡ indexed other
+  unfolding indexed
+  indexing-same = both indexedBy
+
   ruin-same : {choices out out₁ out₂ : List ℕ} {position : ℕ} {r s : Listed} → RuinedIs text choices position out out₁ r → RuinedIs other choices position out out₂ s
       → (r ≡ s) × (out₁ ≡ out₂)
   unfolding ruined
@@ -223,6 +228,7 @@ blank-marks text other d =
         weighing = weighing-same text other same;
         comparing = λ a b. a .answer ∙ comparing-same text other same _ _ ∙ sym (b .answer);
         listing = listing-same text other same;
+        indexing = indexing-same text other same;
         ruin = ruin-same text other same;
         start = start-same text other same;
         report = report-same text other same;

@@ -1,7 +1,7 @@
 -- The mission's first demand, of the answers: "no misdrawn sheet is taken, and no refusal changes a lent buffer". With it stands document
 -- 01's sentence "the table is exact: a number is returned if its condition holds, and only then", in its order: "then 9; then 10 to 16
--- by number as far as the job has them", with 18 between 14 and 15 (document 02, order 5), 19 after 13 (order 6) and 20 before the chart's own
--- (order 7). Each job has its rows of the table in one list, a house one for the house and one for each lane. That nothing makes a job stop,
+-- by number as far as the job has them", with 18 between 14 and 15 (document 02, order 5), 19 after 13 (order 6), 20 before the chart's own
+-- (order 7) and 21 before 10 (order 9). Each job has its rows of the table in one list, a house one for the house and one for each lane. That nothing makes a job stop,
 -- run on or read beyond its input is what every function of the library is proved for.
 use Prim.Native.Nat.{ℕ, _+_, _*_, _≤_, _<_}
 use mathlib.Core.Path.{_≡_}
@@ -10,16 +10,17 @@ use mathlib.Core.List.{List, [], _∷_}
 use lib.ListN.{length, getD}
 use Rattle.search.specs.Below.{countBelow}
 use Rattle.rows.specs.Numbers.{rowValue, numberOf}
-use Rattle.game.specs.Arena.{size, ownerAt}
+use Rattle.game.specs.Arena.{Arena, nobody, size, ownerAt}
 use Rattle.game.specs.Value.{ever}
 use Rattle.game.specs.Play.{Trail, LegalAt, Legal, positional}
 use Rattle.game.specs.Worth.{WorthIs}
 use Rattle.way.specs.Way.{WayToRuin}
 use Rattle.refusal.specs.declared.Misdrawn.{Misdrawn}
 use Rattle.refusal.specs.declared.Refusal.{Refusal}
-use Rattle.refusal.specs.declared.Refusal.the-variants.{Lanes, Chart as OfChart, Short, Plate, Choice, Position, Ever, Fault, Held, Move, Seen}
-use Rattle.chart.specs.Meaning.{arenaOf}
+use Rattle.refusal.specs.declared.Refusal.the-variants.{Lanes, Chart as OfChart, NotSmall, Short, Plate, Choice, Position, Ever, Fault, Held, Move, Seen}
+use Rattle.chart.specs.Meaning.{arenaOf, chartText}
 use Rattle.chart.specs.Refusals.{Applies, First}
+use Rattle.numbering.specs.Numbering.{indexOf, chartCount, Small}
 use Rattle.plate.specs.Form.{BadAt}
 use Rattle.plate.specs.Read.{headerIn, valueIn, choiceIn, stepIn}
 use Rattle.verdict.specs.Verdict.{FirstFaultIs}
@@ -47,6 +48,10 @@ use Rattle.listing.specs.declared.Listed.{Listed}
 use Rattle.listing.specs.declared.Listed.the-variants.{Refused as ListingRefused}
 use Rattle.ruin.specs.Sheet.{waySheet}
 use Rattle.ruin.specs.Ruin.{RuinedIs}
+use Rattle.generating.specs.Generating.{GeneratedIs}
+use Rattle.indexing.specs.Indexing.{indexed}
+use Rattle.indexing.specs.declared.Indexed.{Indexed}
+use Rattle.indexing.specs.declared.Indexed.the-variants.{Refused as IndexingRefused}
 use Rattle.comparing.specs.Compared.{ComparedIs}
 use Rattle.comparing.specs.declared.Compared.{Compared}
 use Rattle.comparing.specs.declared.Compared.the-variants.{Refused as ComparingRefused}
@@ -115,6 +120,18 @@ ShorterThanWay text choices v lent =
     (legal : Legal (arenaOf text) (rowValue choices))
     × ((t : Trail) × WayToRuin (arenaOf text) (positional (arenaOf text) (rowValue choices) legal) v t × TooShort (length (waySheet v t)) lent)
 
+-- 21: "n outside 1 to 3, an index past the last" (document 02, order 9)
+abbrev pub NoSuchIndex : (n i : ℕ) → Type 0
+NoSuchIndex n i = (n < 1) ⊎ ((3 < n) ⊎ (chartCount n ≤ i))
+
+-- 21: "or a chart of another sort", that is not "of 1 to 3 positions, letters O, L, M and D only"
+abbrev pub OfAnotherSort : (text : List ℕ) → Type 0
+OfAnotherSort text = (3 < count text) ⊎ ((v : ℕ) × (v < count text) × (ownerAt (arenaOf text) v ≡ nobody))
+
+-- 10 for a small chart, the one of n positions that has the index
+abbrev pub ShorterThanChart : (n i : ℕ) → (lent : List ℕ) → Type 0
+ShorterThanChart n i lent = (a : Arena) × Small a × (size a ≡ n) × (indexOf a ≡ i) × TooShort (length (chartText a)) lent
+
 -- 14: "checking finds a fault", with the first fault's position and condition
 abbrev pub faulty : (text plate : List ℕ) → Row
 faulty text plate x = (v : ℕ) × (c : ℕ) × (x ≡ Fault v c) × FirstFaultIs (arenaOf text) (valueIn plate) (choiceIn plate) (stepIn plate) (headerIn plate) v c
@@ -177,6 +194,13 @@ ruinRows text choices position out =
     ∷ only Short (ShorterThanWay text choices position out)
     ∷ []
 
+-- "tested after 9 and before 10"
+abbrev pub generatingRows : (n i : ℕ) → (out : List ℕ) → List Row
+generatingRows n i out = only NotSmall (NoSuchIndex n i) ∷ only Short (ShorterThanChart n i out) ∷ []
+
+abbrev pub indexingRows : (text : List ℕ) → List Row
+indexingRows text = misdrawn text ∷ only NotSmall (OfAnotherSort text) ∷ []
+
 -- 13: "a position from n up"
 abbrev pub startRows : (text plate : List ℕ) → ℕ → List Row
 startRows text plate position = misdrawn text ∷ malformed text plate ∷ only Position (count text ≤ position) ∷ faulty text plate ∷ []
@@ -237,7 +261,7 @@ pub record HouseExact (runs after : List Run) (reports text plate : List ℕ) (a
   pub taken : (moved : ℕ) → (answer ≡ Moved moved) ↔ (AllClear runs reports text plate × (moved ≡ countBelow (reporting reports) (length runs)))
   pub unchanged : (lane : ℕ) (x : Refusal) → answer ≡ HouseRefused lane x → after ≡ runs
 
--- of every job, by what it ensures; Checking, Comparing and a start are lent nothing that they could change
+-- of every job, by what it ensures; Checking, Comparing, Indexing and a start are lent nothing that they could change
 pub record Demand1 : Type 0 where
   pub valuing : {text values values′ choices choices′ steps steps′ : List ℕ} {r : Valued} → ValuedIs text values values′ choices choices′ steps steps′ r
       → Exact r ValuingRefused (valuingRows text values choices steps) ((values′ ≡ values) × (choices′ ≡ choices) × (steps′ ≡ steps))
@@ -251,6 +275,8 @@ pub record Demand1 : Type 0 where
   pub listing : {text out out′ : List ℕ} {r : Listed} → ListedIs text out out′ r → Exact r ListingRefused (listingRows text out) (out′ ≡ out)
   pub ruin : {text choices out out′ : List ℕ} {position : ℕ} {r : Listed} → RuinedIs text choices position out out′ r
       → Exact r ListingRefused (ruinRows text choices position out) (out′ ≡ out)
+  pub generating : {n i : ℕ} {out out′ : List ℕ} {r : Written} → GeneratedIs n i out out′ r → Exact r WritingRefused (generatingRows n i out) (out′ ≡ out)
+  pub indexing : {text : List ℕ} {r : Indexed} → r ≡ indexed text → Exact r IndexingRefused (indexingRows text) (Unit {0})
   pub start : {text plate : List ℕ} {position : ℕ} {r : Started} → r ≡ started text plate position → Exact r StartRefused (startRows text plate position) (Unit {0})
   -- "the run comes back unchanged"
   pub report : {run : Run} {text plate : List ℕ} {to : ℕ} {r : Reported} → r ≡ reported run text plate to

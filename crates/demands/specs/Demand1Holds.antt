@@ -47,6 +47,7 @@ use Rattle.run.specs.declared.Started.the-variants.{Refused as StartRefused}
 use Rattle.run.specs.declared.Reported.{Reported}
 use Rattle.demands.specs.RowLaws.{Settled, Tests, short-test, three-short, both-test, inside-test, no-rows, test-row, chart-row, form-row, fault-row, with-lent, choice-test}
 use Rattle.demands.specs.RuinRows.{ruin-settled}
+use Rattle.demands.specs.SmallRows.{generating-settled, indexing-settled}
 use Rattle.demands.specs.ReportRows.{checking-settled, report-settled, report-unmoved}
 use Rattle.demands.specs.HouseRows.{house-exact}
 use Rattle.demands.specs.Demand1.{valuingRows, writingRows, readingRows, weighingRows, comparingRows, ShorterThanSheet, listingRows, startRows, Demand1}
@@ -171,6 +172,8 @@ demand-1 =
       comparing = λ {text} {plate} {choices} is. with-lent (is .answer) (comparing-settled text plate choices) (λ x q. tt);
       listing = λ {text} {out} is. with-lent (is .answer) (listing-settled text out) (is .refused);
       ruin = λ {text} {choices} {out} {out′} {position} is. with-lent (is .answer) (ruin-settled text choices position out) (is .refused);
+      generating = λ {n} {i} {out} is. with-lent (is .answer) (generating-settled n i out) (is .refused);
+      indexing = λ {text} e. with-lent e (indexing-settled text) (λ x q. tt);
       start = λ {text} {plate} {position} e. with-lent e (start-settled text plate position) (λ x q. tt);
       report = λ {run} {text} {plate} {to} e.
           with-lent (ap (λ (r : Reported). r .answer) e) (report-settled run text plate to)

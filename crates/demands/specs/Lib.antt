@@ -9,10 +9,12 @@ pub mod GoodMoves
 pub mod Rest
 pub mod WayToRuin
 pub mod TwoWays
+pub mod SmallCharts
 pub mod EdgeCharts
 pub mod SanctionedLaws
 pub mod RowLaws
 pub mod RuinRows
+pub mod SmallRows
 pub mod ReportRows
 pub mod HouseRows
 pub mod Demand1Holds
@@ -24,4 +26,5 @@ pub mod GoodMovesHold
 pub mod RestHolds
 pub mod WayToRuinHolds
 pub mod TwoWaysHold
+pub mod SmallChartsHold
 pub mod EdgeChartsHold

@@ -15,6 +15,7 @@ use Rattle.comparing.specs.declared.Compared.{Compared}
 use Rattle.listing.specs.Listing.{ListedIs}
 use Rattle.listing.specs.declared.Listed.{Listed}
 use Rattle.ruin.specs.Ruin.{RuinedIs}
+use Rattle.generating.specs.Generating.{GeneratedIs}
 use Rattle.refusal.specs.declared.Numbers.{Numbers}
 use Rattle.house.specs.Housing.{HouseIs}
 use Rattle.house.specs.declared.Housed.{Housed}
@@ -61,6 +62,11 @@ pub record RuinedAs (text choices : List ℕ) (position : ℕ) (out out′ : Lis
   pub answer : Listed
   pub job : RuinedIs text choices position out out′ answer
   pub numbers : r ≡ listedNumbers answer
+
+pub record GeneratedAs (n i : ℕ) (out out′ : List ℕ) (r : WrittenNumbers) : Type 0 where
+  pub answer : Written
+  pub job : GeneratedIs n i out out′ answer
+  pub numbers : r ≡ writtenNumbers answer
 
 pub record HousedAs (runs : List Run) (reports text plate : List ℕ) (after : List Run) (r : HouseNumbers) : Type 0 where
   pub answer : Housed

@@ -2,11 +2,13 @@
 // What is lent and the run are the caller's own; nothing is kept.
 ghost use mathlib.Core.Path.{_≡_};
 ghost use Rattle.checking.specs.Checking.{checked};
+ghost use Rattle.indexing.specs.Indexing.{indexed};
 ghost use Rattle.run.specs.Running.{reported, started};
-ghost use Rattle.answers.specs.Numbers.{checkedNumbers, reportedNumbers, startedNumbers};
-ghost use Rattle.dushemqa.specs.Exports.{ComparedAs, HousedAs, ListedAs, ReadAs, RuinedAs, ValuedAs, WeighedAs, WrittenAs};
+ghost use Rattle.answers.specs.Numbers.{checkedNumbers, indexedNumbers, reportedNumbers, startedNumbers};
+ghost use Rattle.dushemqa.specs.Exports.{ComparedAs, GeneratedAs, HousedAs, ListedAs, ReadAs, RuinedAs, ValuedAs, WeighedAs, WrittenAs};
 use answers::ComparedNumbers;
 use answers::HouseNumbers;
+use answers::IndexedNumbers;
 use answers::ListedNumbers;
 use answers::ReadingNumbers;
 use answers::Step;
@@ -15,6 +17,7 @@ use answers::WrittenNumbers;
 use answers::checked_numbers;
 use answers::compared_numbers;
 use answers::housed_numbers;
+use answers::indexed_numbers;
 use answers::listed_numbers;
 use answers::reading_numbers;
 use answers::reported_numbers;
@@ -24,7 +27,9 @@ use answers::weighed_numbers;
 use answers::written_numbers;
 use checking::check;
 use comparing::compare;
+use generating::write_small_chart;
 use house::report_house;
+use indexing::index_small_chart;
 use listing::list_good_moves;
 use reading::read_plate;
 use refusal::Numbers;
@@ -126,6 +131,26 @@ pub extern "C" fn dushemqa_ruin(
     ensures { λ r. ⌜ RuinedAs (now (text .entry)) (now (choices .entry)) position (now (sheet .entry)) (now (sheet .exit)) r ⌝ }
 {
     listed_numbers(list_way_to_ruin(text, choices, position, sheet))
+}
+
+// Generating.
+#[no_mangle]
+pub extern "C" fn dushemqa_small_chart(
+    positions: usize,
+    index: usize,
+    chart: &mut [u8],
+) -> WrittenNumbers
+    ensures { λ r. ⌜ GeneratedAs positions index (now (chart .entry)) (now (chart .exit)) r ⌝ }
+{
+    written_numbers(write_small_chart(positions, index, chart))
+}
+
+// Indexing.
+#[no_mangle]
+pub extern "C" fn dushemqa_small_index(text: &[u8]) -> IndexedNumbers
+    ensures { λ r. ⌜ r ≡ indexedNumbers (indexed (now (text .entry))) ⌝ }
+{
+    indexed_numbers(index_small_chart(text))
 }
 
 // Start.

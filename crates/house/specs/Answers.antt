@@ -7,7 +7,7 @@ use mathlib.Core.List.{List}
 use lib.ListN.{length, getD}
 use Rattle.search.specs.Below.{countBelow}
 use Rattle.refusal.specs.declared.Refusal.{Refusal}
-use Rattle.refusal.specs.declared.Refusal.the-variants.{Lanes, Chart as OfChart, Short, Plate, Choice, Position, Ever, Fault, Held, Move, Seen}
+use Rattle.refusal.specs.declared.Refusal.the-variants.{Lanes, Chart as OfChart, NotSmall, Short, Plate, Choice, Position, Ever, Fault, Held, Move, Seen}
 use Rattle.checking.specs.Answers.{AcceptedIs, RefusedIs}
 use Rattle.run.specs.Running.{noRun}
 use Rattle.run.specs.Answers.{ReportRefused}
@@ -38,6 +38,7 @@ OfLane Move = Unit {0}
 OfLane Seen = Unit {0}
 OfLane Lanes = ⊥
 OfLane (OfChart r) = ⊥
+OfLane NotSmall = ⊥
 OfLane Short = ⊥
 OfLane (Plate line) = ⊥
 OfLane Choice = ⊥

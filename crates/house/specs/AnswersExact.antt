@@ -12,7 +12,7 @@ use borrow.Author.Tests.{eqb-true, eqb-false}
 use Rattle.search.specs.Below.{countBelow}
 use Rattle.search.specs.First.{AllPass, FirstAt, first-or-none, first-none, first-at}
 use Rattle.refusal.specs.declared.Refusal.{Refusal}
-use Rattle.refusal.specs.declared.Refusal.the-variants.{Lanes, Chart as OfChart, Short, Plate, Choice, Position, Ever, Fault, Held, Move, Seen}
+use Rattle.refusal.specs.declared.Refusal.the-variants.{Lanes, Chart as OfChart, NotSmall, Short, Plate, Choice, Position, Ever, Fault, Held, Move, Seen}
 use Rattle.checking.specs.Answers.{AcceptedIs, RefusedIs}
 use Rattle.checking.specs.AnswersExact.{answer-exactly}
 use Rattle.checking.specs.Checking.{checked}
@@ -59,6 +59,7 @@ accepted-lane-gives run text plate to (OfChart r) is h = accepted-not-refused te
 accepted-lane-gives run text plate to (Plate line) is h = accepted-not-refused text plate (Plate line) is h
 accepted-lane-gives run text plate to (Fault v c) is h = accepted-not-refused text plate (Fault v c) is (h .0)
 accepted-lane-gives run text plate to Lanes is h = h
+accepted-lane-gives run text plate to NotSmall is h = h
 accepted-lane-gives run text plate to Short is h = h
 accepted-lane-gives run text plate to Choice is h = h
 accepted-lane-gives run text plate to Ever is h = h

@@ -1,7 +1,7 @@
 // Asks the jobs about charts, plates, steps and rows of choices, good and bad, and writes what each answers and what the case is.
 // `stdin` has the cases, `stdout` what the documents say of each. The first letter of a case's name is its job: `E` examines a chart, `C`
 // is Checking, `R` Reading, `W` the program's answer, `S` a step of a run, `D` Comparing, `G` Listing, `P` the way to ruin, `H` a step of a
-// house and `V` Valuing, the filed way and the plain one.
+// house, `V` Valuing, the filed way and the plain one, `N` the small chart of an index and `I` the index of a small chart.
 ghost use Rattle.cases.specs.CaseLaws.{Ordered};
 ghost use lib.ListN.{length};
 use crate::houses::Lanes;
@@ -15,6 +15,7 @@ mod houses;
 mod plates;
 mod runs;
 mod sheets;
+mod small;
 mod values;
 mod ways;
 mod writer;
@@ -112,6 +113,10 @@ fn show(name: &[u8], chart: &[u8], plate: &[u8], words: &[u8], held: Held) -> He
         values::show(chart, words, &name[1..]);
         return held;
     }
+    if job == b'N' {
+        small::generate(words, &name[1..]);
+        return held;
+    }
     if job == b'H' {
         let lanes = houses::show(chart, plate, words, &name[1..], run, lanes);
         return Held { run, lanes };
@@ -137,6 +142,9 @@ fn answer(job: u8, chart: &[u8], plate: &[u8], words: &[u8], run: Run) -> Run {
     }
     if job == b'D' {
         plates::compare(chart, plate, words);
+    }
+    if job == b'I' {
+        small::index(chart);
     }
     run
 }

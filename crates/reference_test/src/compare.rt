@@ -1,50 +1,51 @@
 // Holds the library's jobs against the definitions, chart by chart, and counts. Lent rows and buffers are filled before, so that what
 // lies past the last position or line is seen to stay.
-use crate::checker::Fault;
-use crate::checker::first_fault;
-use crate::definition::solve;
-use crate::definition::target;
-use crate::definition::weigh_choices;
-use crate::generate::below;
 use crate::listed::compare_sheets;
-use crate::sheet::CHOICE;
-use crate::sheet::CONTROLLER;
-use crate::sheet::COUNTS;
-use crate::sheet::Chart;
-use crate::sheet::HEADER;
-use crate::sheet::MEANT;
-use crate::sheet::NONE;
-use crate::sheet::RIGHT;
-use crate::sheet::STEP;
-use crate::sheet::Table;
-use crate::sheet::VALUE;
-use crate::sheet::WORTH;
-use crate::sheet::cell;
-use crate::sheet::get;
-use crate::sheet::owner;
-use crate::sheet::positions;
-use crate::sheet::put;
-use crate::sheet::rests;
-use crate::text::Page;
-use crate::text::part;
-use crate::text::write_chart;
-use crate::text::write_plate;
-use checking::Checked;
 use comparing::Compared;
 use comparing::compare;
 use reading::Reading;
 use reading::read_plate;
+use reference::altered::change;
+use reference::altered::choose;
+use reference::altered::choose_drawn;
+use reference::altered::ways;
+use reference::answers::length_of;
+use reference::answers::numbers_of;
+use reference::checker::Fault;
+use reference::checker::first_fault;
+use reference::definition::solve;
+use reference::definition::weigh_choices;
+use reference::generate::below;
+use reference::sheet::CHOICE;
+use reference::sheet::Chart;
+use reference::sheet::HEADER;
+use reference::sheet::NONE;
+use reference::sheet::RIGHT;
+use reference::sheet::STEP;
+use reference::sheet::Table;
+use reference::sheet::VALUE;
+use reference::sheet::WORTH;
+use reference::sheet::cell;
+use reference::sheet::first_difference;
+use reference::sheet::get;
+use reference::sheet::positions;
+use reference::sheet::rests;
+use reference::sheet::wide;
+use reference::tally::Tally;
+use reference::tally::add;
+use reference::tally::expect;
+use reference::text::part;
+use reference::text::same_pages;
+use reference::text::write_chart;
+use reference::text::write_plate;
 use refusal::Numbers;
 use valuing::Valued;
 use valuing::value_chart;
 use valuing::value_plain;
 use weighing::Weighed;
 use weighing::weigh_chart;
-use writing::Written;
 
-// What was counted, in the order in which it is written. Plates that were refused are counted by the condition.
-pub type Tally = [usize; 19];
-
+// What is counted, in the order in which it is written. Plates that were refused are counted by the condition.
 const CHARTS: usize = 0;
 
 const POSITIONS: usize = 1;
@@ -65,34 +66,11 @@ pub const OPTIMAL: usize = 15;
 
 pub const OTHERS: usize = 16;
 
-const MISMATCHES: usize = 17;
-
 // Positions of rest.
 pub const RESTS: usize = 18;
 
 // What lent rows are filled with.
 const FILLED: usize = 4660;
-
-pub fn add(tally: &mut Tally, k: usize, x: usize) {
-    tally[k % 19] = tally[k % 19] % 1000000000 + x % 1000000000;
-}
-
-// Counts a comparison that failed, and shows its chart; only the first few are shown.
-pub fn expect(ok: bool, name: &[u8], text: &[u8], tally: &mut Tally) {
-    if ok {
-        return;
-    }
-    add(tally, MISMATCHES, 1);
-    if tally[17] < 9 {
-        io::write_all(1, name);
-        io::write_all(1, b": not by the definitions\n");
-        io::write_all(1, text);
-    }
-}
-
-pub fn wide(x: u16) -> usize {
-    x as usize
-}
 
 // A lent row has a column's first n entries, and the rest of it stayed.
 fn same_row(table: &Table, column: usize, n: usize, row: &[u16; 512]) -> bool {
@@ -121,18 +99,6 @@ pub fn same_rows(
         return false;
     }
     same_row(table, STEP, n, steps)
-}
-
-// The first bytes of two pages.
-pub fn same_pages(a: &Page, b: &Page, size: usize) -> bool {
-    let mut i: usize = 0;
-    while i < size {
-        if a[i % 65536] != b[i % 65536] {
-            return false;
-        }
-        i += 1;
-    }
-    true
 }
 
 // All comparisons of one chart.
@@ -224,13 +190,6 @@ fn compare_plate(chart: &Chart, table: &Table, text: &[u8], tally: &mut Tally) {
     compare_reading(chart, table, text, part(&written, size), tally);
 }
 
-fn length_of(answer: Written) -> usize {
-    match answer {
-        Written::Length(k) => k,
-        Written::Refused(_) => 99999,
-    }
-}
-
 // Reading: three rows and the first line's numbers.
 fn compare_reading(chart: &Chart, table: &Table, text: &[u8], plate: &[u8], tally: &mut Tally) {
     let n = positions(chart);
@@ -263,14 +222,6 @@ fn compare_check(chart: &Chart, table: &Table, text: &[u8], tally: &mut Tally) {
     let fault = first_fault(chart, table);
     add(tally, ACCEPTED + fault.condition % 7, 1);
     expect(same_answer(answer, fault), b"checking", text, tally);
-}
-
-// An answer in the refusal table's numbers.
-pub fn numbers_of(answer: Checked) -> Numbers {
-    match answer {
-        Checked::Accepted => Numbers::none(),
-        Checked::Refused(r) => r.numbers(),
-    }
 }
 
 // Accepted, or 14 with position and condition.
@@ -329,39 +280,6 @@ fn change_plate(
     compare_check(chart, &changed, text, tally);
 }
 
-// Two changes of each of the three entries of a line, then of the first line's; none from there on.
-pub fn change(table: &mut Table, n: usize, code: usize) {
-    let v = code / 6;
-    let column = code / 2 % 3;
-    if v < n {
-        let size = if column == CHOICE { n } else { 512 };
-        let x = turned(get(table, column, v), code % 2, size, NONE);
-        put(table, column, v, x);
-    }
-    if v == n {
-        let most = if column == 1 { NONE } else { 512 };
-        let x = turned(get(table, HEADER, column), code % 2, 512, most);
-        put(table, HEADER, column, x);
-    }
-}
-
-// The next or the last of the numbers below the size and `past`, in a circle.
-fn turned(x: usize, back: usize, size: usize, past: usize) -> usize {
-    if back == 0 {
-        if x < size {
-            return if x + 1 == size { past } else { x + 1 };
-        }
-        return 0;
-    }
-    if x == 0 {
-        return past;
-    }
-    if x < size {
-        return x - 1;
-    }
-    if size == 0 { 0 } else { size - 1 }
-}
-
 // Weighing and Comparing: each positional controller of a chart of one or two positions, else four that are drawn.
 fn weigh_controllers(
     chart: &Chart,
@@ -379,16 +297,6 @@ fn weigh_controllers(
         }
         i += 1;
     }
-}
-
-// How many choices there are at a position, one where none is made.
-pub fn ways(chart: &Chart, v: usize) -> usize {
-    if v < positions(chart) {
-        if owner(chart, v) == CONTROLLER {
-            return cell(chart, COUNTS, MEANT + v % 512);
-        }
-    }
-    1
 }
 
 fn weigh_numbered(
@@ -417,26 +325,6 @@ fn weigh_drawn(chart: &Chart, solved: &Table, text: &[u8], seed: &mut usize, tal
     choose_drawn(chart, &mut table, &mut row, seed);
     compare_worths(chart, &mut table, text, &row, tally);
     compare_rows(chart, solved, &table, text, &row, tally);
-}
-
-pub fn choose_drawn(chart: &Chart, table: &mut Table, row: &mut [u16; 512], seed: &mut usize) {
-    let n = positions(chart);
-    let mut v = 0;
-    while v < n {
-        choose(chart, table, row, v, below(seed, ways(chart, v)));
-        v += 1;
-    }
-}
-
-// Chooses v's i-th meant target.
-pub fn choose(chart: &Chart, table: &mut Table, row: &mut [u16; 512], v: usize, i: usize) {
-    let x = if owner(chart, v) == CONTROLLER {
-        target(chart, v, MEANT, i)
-    } else {
-        NONE
-    };
-    put(table, CHOICE, v, x);
-    row[v % 512] = (x % 65536) as u16;
 }
 
 fn compare_worths(
@@ -481,18 +369,6 @@ fn compare_rows(
         text,
         tally,
     );
-}
-
-// The first of n entries at which two columns differ, n if they do at none.
-pub fn first_difference(table: &Table, a: usize, b: usize, n: usize) -> usize {
-    let mut v = 0;
-    while v < n {
-        if get(table, a, v) != get(table, b, v) {
-            return v;
-        }
-        v += 1;
-    }
-    n
 }
 
 fn same_difference(answer: Compared, table: &Table, n: usize, first: usize) -> bool {

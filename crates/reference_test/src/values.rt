@@ -1,24 +1,25 @@
 // Valuing, the filed way and the plain one: each one's answer, and every number of the three rows, held against the definitions. The rows lent
 // are longer than the chart wants or as long; one of them may be short, and the text may be damaged.
-use crate::compare::Tally;
-use crate::compare::add;
-use crate::compare::expect;
 use crate::compare::same_rows;
-use crate::compare::wide;
-use crate::definition::solve;
-use crate::generate::below;
-use crate::generate::build;
-use crate::sheet::Chart;
-use crate::sheet::HEADER;
-use crate::sheet::RIGHT;
-use crate::sheet::Table;
-use crate::sheet::cell;
-use crate::sheet::get;
-use crate::sheet::positions;
-use crate::text::Page;
-use crate::text::lines_of;
-use crate::text::part;
-use crate::text::write_damaged;
+use reference::answers::is_refusal;
+use reference::definition::solve;
+use reference::generate::below;
+use reference::generate::build;
+use reference::sheet::Chart;
+use reference::sheet::HEADER;
+use reference::sheet::RIGHT;
+use reference::sheet::Table;
+use reference::sheet::cell;
+use reference::sheet::get;
+use reference::sheet::positions;
+use reference::sheet::wide;
+use reference::tally::Tally;
+use reference::tally::add;
+use reference::tally::expect;
+use reference::text::Page;
+use reference::text::lines_of;
+use reference::text::part;
+use reference::text::write_damaged;
 use valuing::Valued;
 use valuing::value_chart;
 use valuing::value_plain;
@@ -138,11 +139,7 @@ fn same_way(
 fn same_answer(answer: Valued, rounds: usize, number: usize, line: usize) -> bool {
     match answer {
         Valued::Rounds(x) => (number == 0) & (wide(x) == rounds),
-        Valued::Refused(refusal) => {
-            let r = refusal.numbers();
-            let placed = (r.line == line) & (r.position == 0) & (r.condition == 0);
-            (number != 0) & (r.number as usize == number) & placed
-        }
+        Valued::Refused(refusal) => is_refusal(refusal, number, line),
     }
 }
 

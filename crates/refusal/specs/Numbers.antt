@@ -1,11 +1,11 @@
 -- What each refusal gives, as document 01's table has it: "A refusal gives a number and a line, counted from 0 in the chart (1 to 9) or
 -- plate (11), else 0; 14 gives the fault's position and condition besides", and document 02, order 4: "17 (with its line)", in the chart too;
--- order 5's 18, order 6's 19 and order 7's 20 give none. The one definition of the table's numbers.
+-- order 5's 18, order 6's 19, order 7's 20 and order 9's 21 give none. The one definition of the table's numbers.
 use Prim.Native.Nat.{ℕ}
 use Rattle.refusal.specs.declared.Misdrawn.{Misdrawn}
 use Rattle.refusal.specs.declared.Misdrawn.the-variants.{Length, Form, Limits, Count, Sequence, Endpoint, Disturbed, Resting, Order, NoMeant}
 use Rattle.refusal.specs.declared.Refusal.{Refusal}
-use Rattle.refusal.specs.declared.Refusal.the-variants.{Lanes, Chart, Short, Plate, Choice, Position, Ever, Fault, Held, Move, Seen}
+use Rattle.refusal.specs.declared.Refusal.the-variants.{Lanes, Chart, NotSmall, Short, Plate, Choice, Position, Ever, Fault, Held, Move, Seen}
 use Rattle.refusal.specs.declared.Numbers.{Numbers}
 
 -- the table's column "No."
@@ -37,6 +37,7 @@ misdrawnLine (NoMeant line) = line
 abbrev pub refusalNumber : Refusal → ℕ
 refusalNumber Lanes = 20
 refusalNumber (Chart m) = misdrawnNumber m
+refusalNumber NotSmall = 21
 refusalNumber Short = 10
 refusalNumber (Plate line) = 11
 refusalNumber Choice = 12
@@ -51,6 +52,7 @@ refusalNumber Seen = 16
 abbrev pub refusalLine : Refusal → ℕ
 refusalLine Lanes = 0
 refusalLine (Chart m) = misdrawnLine m
+refusalLine NotSmall = 0
 refusalLine Short = 0
 refusalLine (Plate line) = line
 refusalLine Choice = 0
@@ -65,6 +67,7 @@ refusalLine Seen = 0
 abbrev pub refusalPosition : Refusal → ℕ
 refusalPosition Lanes = 0
 refusalPosition (Chart m) = 0
+refusalPosition NotSmall = 0
 refusalPosition Short = 0
 refusalPosition (Plate line) = 0
 refusalPosition Choice = 0
@@ -78,6 +81,7 @@ refusalPosition Seen = 0
 abbrev pub refusalCondition : Refusal → ℕ
 refusalCondition Lanes = 0
 refusalCondition (Chart m) = 0
+refusalCondition NotSmall = 0
 refusalCondition Short = 0
 refusalCondition (Plate line) = 0
 refusalCondition Choice = 0

@@ -17,12 +17,13 @@ pub enum Misdrawn {
     NoMeant(usize),
 }
 
-// The table in the order of its tests: 20, a chart's refusal, then 10 to 16, 18 and 19. 11 has the plate's line, 14 the fault's position
+// The table in the order of its tests: 20, a chart's refusal, 21, then 10 to 16, 18 and 19. 11 has the plate's line, 14 the fault's position
 // and condition. 18 is tested between 14 and 15 (document 02, order 5), 19 after 13, by the way to ruin only (order 6), 20 before the
-// chart, by a house of lanes only (order 7).
+// chart, by a house of lanes only (order 7), 21 after 9 and before 10, by the jobs of small charts only (order 9).
 pub enum Refusal {
     Lanes,
     Chart(Misdrawn),
+    NotSmall,
     Short,
     Plate(usize),
     Choice,
@@ -99,6 +100,7 @@ impl Refusal {
         match self {
             Refusal::Lanes => 20,
             Refusal::Chart(m) => m.number(),
+            Refusal::NotSmall => 21,
             Refusal::Short => 10,
             Refusal::Plate(_) => 11,
             Refusal::Choice => 12,
@@ -117,6 +119,7 @@ impl Refusal {
         match self {
             Refusal::Lanes => 0,
             Refusal::Chart(m) => m.line(),
+            Refusal::NotSmall => 0,
             Refusal::Short => 0,
             Refusal::Plate(line) => line,
             Refusal::Choice => 0,
@@ -135,6 +138,7 @@ impl Refusal {
         match self {
             Refusal::Lanes => 0,
             Refusal::Chart(_) => 0,
+            Refusal::NotSmall => 0,
             Refusal::Short => 0,
             Refusal::Plate(_) => 0,
             Refusal::Choice => 0,
@@ -153,6 +157,7 @@ impl Refusal {
         match self {
             Refusal::Lanes => 0,
             Refusal::Chart(_) => 0,
+            Refusal::NotSmall => 0,
             Refusal::Short => 0,
             Refusal::Plate(_) => 0,
             Refusal::Choice => 0,

@@ -18,7 +18,7 @@ use Rattle.rows.specs.Rows.{ownerNumber, RowsOf, Within}
 use Rattle.rows.specs.Notes.{found}
 
 -- a search over the move lines is the search over the moves
-some-lines : (f : ℕ → Bool) (p : Move → Bool) (ms : List Move) → ((j : ℕ) → j < length ms → f j ≡ p (getD ms j noMove)) → someBelow f (length ms) ≡ someMove p ms
+pub some-lines : (f : ℕ → Bool) (p : Move → Bool) (ms : List Move) → ((j : ℕ) → j < length ms → f j ≡ p (getD ms j noMove)) → someBelow f (length ms) ≡ someMove p ms
 unfolding someBelow someMove
 some-lines f p [] h = refl
 some-lines f p (m ∷ ms) h =

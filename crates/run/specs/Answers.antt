@@ -10,7 +10,7 @@ use Rattle.chart.specs.Meaning.{arenaOf}
 use Rattle.chart.specs.Examined.{examined}
 use Rattle.rows.specs.declared.Chart.{Chart}
 use Rattle.refusal.specs.declared.Refusal.{Refusal}
-use Rattle.refusal.specs.declared.Refusal.the-variants.{Lanes, Chart as OfChart, Short, Plate, Choice, Position, Ever, Fault, Held, Move, Seen}
+use Rattle.refusal.specs.declared.Refusal.the-variants.{Lanes, Chart as OfChart, NotSmall, Short, Plate, Choice, Position, Ever, Fault, Held, Move, Seen}
 use Rattle.chart.specs.declared.Examination.the-variants.{Accepted as Taken, Refused as Turned}
 use Rattle.plate.specs.Form.{OfForm}
 use Rattle.plate.specs.Read.{valueIn, choiceIn}
@@ -38,6 +38,7 @@ StartRefused text plate position (Plate line) = FormIs text plate line
 StartRefused text plate position Position = Readable text plate × (size (arenaOf text) ≤ position)
 StartRefused text plate position (Fault v c) = FaultIs text plate v c × (position < size (arenaOf text))
 StartRefused text plate position Lanes = ⊥
+StartRefused text plate position NotSmall = ⊥
 StartRefused text plate position Short = ⊥
 StartRefused text plate position Choice = ⊥
 StartRefused text plate position Ever = ⊥
@@ -76,6 +77,7 @@ ReportRefused run text plate to Held = Stands run text plate to × (Holds run pl
 ReportRefused run text plate to Move = Moves run text plate to Neither
 ReportRefused run text plate to Seen = Moves run text plate to Disturbance × (99999 ≤ run .seen)
 ReportRefused run text plate to Lanes = ⊥
+ReportRefused run text plate to NotSmall = ⊥
 ReportRefused run text plate to Short = ⊥
 ReportRefused run text plate to Choice = ⊥
 ReportRefused run text plate to Ever = ⊥

@@ -1,10 +1,10 @@
 //! Lines alone: rows of numbers set out as a plate's lines or a sheet's, without the job around it, by the library's
 //! writers beside Rust's.
 
-use crate::EVEN;
+use crate::{EVEN, TURNS};
 use conformance::capi::FirstLine;
 use conformance::chart::{Chart, MOVES, POSITIONS};
-use conformance::measure::times;
+use conformance::measure::{in_turn, times};
 use conformance::random::Random;
 use conformance::shapes::{all_good, blocks, drawn, filled, lane_chain};
 use conformance::solver;
@@ -20,9 +20,6 @@ extern "C" {
     fn timed_pair_lines(letter: u8, count: usize, firsts: *const u16, firsts_length: usize,
                         seconds: *const u16, seconds_length: usize, lines: *mut u8, lines_length: usize);
 }
-
-/// How many drawn plates or sheets take turns: the same one again and again would teach the processor its branches.
-const TURNS: usize = 64;
 
 /// What a plate's lines are written from.
 struct Rows {
@@ -125,14 +122,14 @@ fn both<T>(things: &[T], size: usize, library: fn(&T, &mut [u8]), rust: fn(&T, &
         rust(thing, &mut other);
         assert!(one == other, "the two write alike");
     }
-    let in_turn = |write: fn(&T, &mut [u8])| {
-        let (mut turns, mut out) = (things.iter().cycle(), vec![0; size]);
-        move || {
-            write(black_box(turns.next().expect("there is a thing")), &mut out);
+    let timed = |write: fn(&T, &mut [u8])| {
+        let mut out = vec![0; size];
+        in_turn(things, move |thing| {
+            write(thing, &mut out);
             black_box(&mut out);
-        }
+        })
     };
-    times([&mut in_turn(library), &mut in_turn(rust)])
+    times([&mut timed(library), &mut timed(rust)])
 }
 
 fn plates() -> Vec<(&'static str, Vec<Rows>)> {

@@ -17,8 +17,12 @@ use std::process::ExitCode;
 
 mod both_ways;
 mod lines;
+mod small;
 
 const JOBS: [&str; 6] = ["value", "write", "check", "weigh", "good", "ruin"];
+
+/// How many drawn plates, sheets or small charts take turns.
+const TURNS: usize = 64;
 
 /// The shape of the random charts with an even mix.
 const EVEN: Shape = Shape { lane: 30, hazards: 5, meant: 8, disturbances: 8, reach: Reach::Anywhere };
@@ -297,7 +301,7 @@ fn main() -> ExitCode {
         return ExitCode::from(2);
     }
     println!("The library through its C interface beside the fast solver in Rust, both built for release.");
-    println!("Each call is a whole job from the chart's text, but where lines alone are timed.");
+    println!("Each call is a whole job from the chart's text or its index, but where lines alone are timed.");
     println!("Medians of batches that take turns.");
     println!("What is lent is not cleared between calls: answers are written over the last ones.");
     match words.is_empty() {
@@ -315,6 +319,7 @@ fn all() {
     reports();
     houses();
     ways_to_ruin();
+    small::small_charts();
     growth();
     memory();
 }

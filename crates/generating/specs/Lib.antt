@@ -1,0 +1,2 @@
+pub mod Generating
+pub mod GeneratingLaws
