@@ -1,5 +1,7 @@
 // The jobs' answers as C has them: numbers in structs that lie as C's do. Each is the result's own numbers, or the refusal's by the one
 // table and zeros.
+#![tactic(auto)]
+
 ghost use Rattle.std.specs.Prelude.{◌≡◌};
 ghost use Rattle.answers.specs.Numbers.{answer_numbers, checked_numbers, compared_numbers, housed_numbers, indexed_numbers, listed_numbers, reading_numbers, refused_step, reported_numbers, started_numbers, valued_numbers, weighed_numbers, written_numbers};
 
@@ -17,28 +19,28 @@ use weighing::Weighed;
 use writing::Written;
 
 #[repr(C)]
-#[derive(Drop)]
+#[derive(Clone, Copy)]
 pub struct ValuedNumbers {
     pub refusal: Numbers,
     pub rounds: u16,
 }
 
 #[repr(C)]
-#[derive(Drop)]
+#[derive(Clone, Copy)]
 pub struct WrittenNumbers {
     pub refusal: Numbers,
     pub length: usize,
 }
 
 #[repr(C)]
-#[derive(Drop)]
+#[derive(Clone, Copy)]
 pub struct ReadingNumbers {
     pub refusal: Numbers,
     pub first: FirstLine,
 }
 
 #[repr(C)]
-#[derive(Drop)]
+#[derive(Clone, Copy)]
 pub struct ComparedNumbers {
     pub refusal: Numbers,
     pub agree: bool,
@@ -48,14 +50,14 @@ pub struct ComparedNumbers {
 }
 
 #[repr(C)]
-#[derive(Drop)]
+#[derive(Clone, Copy)]
 pub struct ListedNumbers {
     pub refusal: Numbers,
     pub lines: usize,
 }
 
 #[repr(C)]
-#[derive(Drop)]
+#[derive(Clone, Copy)]
 pub struct IndexedNumbers {
     pub refusal: Numbers,
     pub index: usize,
@@ -63,7 +65,7 @@ pub struct IndexedNumbers {
 
 // A run that was started or moved on, or that a refusal left as it was.
 #[repr(C)]
-#[derive(Drop)]
+#[derive(Clone, Copy)]
 pub struct Step {
     pub refusal: Numbers,
     pub run: Run,
@@ -72,7 +74,7 @@ pub struct Step {
 
 // A house's report: the refused lane, 0 where none is or the whole house is, and how many lanes moved.
 #[repr(C)]
-#[derive(Drop)]
+#[derive(Clone, Copy)]
 pub struct HouseNumbers {
     pub refusal: Numbers,
     pub lane: usize,

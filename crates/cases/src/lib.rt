@@ -1,12 +1,14 @@
 // The cases of a test program's input. A case has the lengths of its name and of its three texts in four fields, a line feed, the
 // name, the texts and a line feed.
+#![tactic(auto)]
+
 ghost use Rattle.std.specs.Prelude.{◌≤◌, ◌≡◌};
 ghost use Rattle.cases.specs.Cases.{after, case_at, length_in, no_case};
 
 use field::{Field, read};
 
 // Where a case's name and its texts begin, and where they end.
-#[derive(Drop)]
+#[derive(Clone, Copy)]
 pub struct Case {
     pub name: usize,
     pub first: usize,

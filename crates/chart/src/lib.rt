@@ -1,5 +1,7 @@
 // The chart's text (document 01, "The chart", and refusals 1 to 9 of its table, with 17 of document 02): a text of any bytes is examined
 // whole. What a text means is in specs/Meaning.antt, each refusal's condition in specs/Refusals.antt.
+#![tactic(auto)]
+
 ghost use Rattle.std.specs.Prelude.{◌≡◌, cond, false, ℕ, ◌+◌, ◌-◌, ◌*◌, ◌≤◌, ◌<◌, length, get_or};
 ghost use Rattle.chart.specs.Text.{letter_at, mark_of, field_number};
 ghost use Rattle.chart.specs.Columns.{row_at, meant_row};
@@ -11,21 +13,21 @@ use refusal::Misdrawn;
 use rows::Chart;
 
 // What examining a text answers.
-#[derive(Drop)]
+#[derive(Clone, Copy)]
 pub enum Examination {
     Accepted(Chart),
     Refused(Misdrawn),
 }
 
 // What examining a part of a text finds.
-#[derive(Drop)]
+#[derive(Clone, Copy)]
 enum Finding {
     Clean,
     Fault(Misdrawn),
 }
 
 // The columns of a line: its letter, its two fields and its last byte.
-#[derive(Drop)]
+#[derive(Clone, Copy)]
 struct Row {
     letter: u8,
     first: Field,

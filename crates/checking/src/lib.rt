@@ -1,5 +1,7 @@
 // Checking (document 01, "The jobs"): a chart and anybody's plate, accepted or refused with the first fault. It has three doors: `check`
 // takes the two texts, `check_plate` a chart's rows and any plate, `check_formed` rows and a plate that is known to be of the form.
+#![tactic(auto)]
+
 ghost use Rattle.std.specs.Prelude.{◌≡◌};
 ghost use Rattle.rows.specs.Rows.{Ascending, ChartRows};
 ghost use Rattle.plate.specs.Formed.{form_of};
@@ -14,7 +16,7 @@ use rows::Chart;
 use verdict::{Verdict, check_rows};
 
 // What Checking answers: accepted, or a refusal: the chart's, 11 or 14.
-#[derive(Drop)]
+#[derive(Clone, Copy)]
 pub enum Checked {
     Accepted,
     Refused(Refusal),

@@ -1,4 +1,6 @@
 // The choices of a row of values: at O the meant target of greatest value, the lowest number among equals.
+#![tactic(auto)]
+
 ghost use Rattle.std.specs.Prelude.{◌≡◌, ◌&&◌, List, ℕ, ◌<◌, ◌≤◌, length, get_or};
 ghost use Rattle.rows.specs.Rows.{AtMove, ChartRows};
 ghost use Rattle.rows.specs.Filling.{set_if};

@@ -1,5 +1,7 @@
 // Comparing: a chart, a plate and a row of choices into whether the plate's values and the worths of the controller that makes the
 // choices agree, or the first position where they differ.
+#![tactic(auto)]
+
 ghost use Rattle.std.specs.Prelude.{◌≡◌, ◌≤◌, length};
 ghost use Rattle.rows.specs.Numbers.{number_at};
 ghost use Rattle.rows.specs.Rows.{Ascending, ChartRows};
@@ -18,7 +20,7 @@ use weighing::weigh_rows;
 
 // What Comparing answers: that the rows agree; the first position where they differ, with value and worth; or a refusal: the chart's,
 // 10 where there are fewer choices than positions, 11, 12 or 14.
-#[derive(Drop)]
+#[derive(Clone, Copy)]
 pub enum Compared {
     Agree,
     Differ(usize, u16, u16),

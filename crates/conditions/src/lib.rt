@@ -1,11 +1,13 @@
 // Conditions 1 to 5 of Checking at one position: those that its own line settles, and those that its moves settle.
+#![tactic(auto)]
+
 ghost use Rattle.std.specs.Prelude.{◌≡◌};
 ghost use Rattle.conditions.specs.Position.{Rank, after_moves, before_moves, earlier_target, joined, nothing, shown};
 
 use rows::NONE;
 
 // A position: its owner and mark in the chart, and its line of the plate.
-#[derive(Drop)]
+#[derive(Clone, Copy)]
 pub struct Line {
     pub owner: u8,
     pub mark: u8,
@@ -15,7 +17,7 @@ pub struct Line {
 }
 
 // A move of the position: its cost and target, and the target's value and step.
-#[derive(Drop)]
+#[derive(Clone, Copy)]
 pub struct Target {
     pub cost: u8,
     pub to: u16,
@@ -25,7 +27,7 @@ pub struct Target {
 
 // What moves show: a meant one into the choice, one below what holding asks, one that ruin can go by, a meant one that is
 // not earlier.
-#[derive(Drop)]
+#[derive(Clone, Copy)]
 pub struct Seen {
     pub chosen: bool,
     pub low: bool,

@@ -1,6 +1,8 @@
 // Holds the library's refusals 1 to 9 and 17 against a second reading of document 01's table, on small pseudo-random charts with blank
 // marks, as they are drawn and damaged, without positions of rest and with some. It writes a line for each kind of damage, with what was
 // counted, and each comparison that fails with its text. Nothing but the jobs that are compared is shared with the library.
+#![tactic(auto)]
+
 use crate::compare::{RESTING, Tally, compare_drawn, compare_text};
 
 mod compare;

@@ -3,7 +3,7 @@
 use crate::draw::{NONE, glyph, less};
 
 // A refusal's number and line; or number 0, and the length of the chart's plate.
-#[derive(Drop)]
+#[derive(Clone, Copy)]
 pub struct Answer {
     pub number: usize,
     pub line: usize,

@@ -1,4 +1,6 @@
 // An accepted chart as rows of numbers, on which every job works. What the rows hold is in specs/Loaded.antt.
+#![tactic(auto)]
+
 ghost use Rattle.std.specs.Prelude.{◌≡◌, ◌+◌, ◌≤◌, length};
 ghost use Rattle.chart.specs.Examined.{examined};
 ghost use Rattle.walk.specs.Decoded.{PositionRows, MoveRows};

@@ -1,5 +1,7 @@
 // The least count of moves from each position to a marked one: a breadth-first search from the marked positions, back along moves that are
 // chained by target. Each move is looked at once.
+#![tactic(auto)]
+
 ghost use Rattle.std.specs.Prelude.{◌≡◌, List, ℕ, ◌<◌, ◌≤◌, length, get_or};
 ghost use Rattle.chains.specs.Chains.{Chained};
 ghost use Rattle.distances.specs.Distances.{Begun, BegunAt, Distances, Joins, Reached, Searching, Visited};

@@ -1,5 +1,7 @@
 // The C interface: each of the library's jobs as a function on pointers and lengths, thin over the job. `c/dushemqa.h` declares them.
 // What is lent and the run are the caller's own; nothing is kept.
+#![tactic(auto)]
+
 ghost use Rattle.std.specs.Prelude.{◌≡◌};
 ghost use Rattle.checking.specs.Checking.{checked};
 ghost use Rattle.indexing.specs.Indexing.{indexed};

@@ -1,11 +1,13 @@
 // The five-byte field of charts and plates (document 01, "The chart"): a number from 0 to 99,999, right-justified after
 // spaces, with no leading zero save "0" itself; or blank, five spaces. Reading and writing are each other's inverse (specs/Laws.antt).
+#![tactic(auto)]
+
 ghost use Rattle.std.specs.Prelude.{◌≡◌, cond, [], ◌∷◌, ◌+◌, ◌-◌, ◌≤◌, ◌<◌, length, eqb};
 ghost use Rattle.field.specs.Text.{Digits, scan, ended, field_at, decimal_at, with_number, place_byte};
 ghost use Rattle.field.specs.Reader.{is_digit};
 
 // What five bytes read as. Whether a blank is taken is its sheet's matter.
-#[derive(Drop)]
+#[derive(Clone, Copy)]
 pub enum Field {
     Number(u32),
     Blank,

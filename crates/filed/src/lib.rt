@@ -1,5 +1,7 @@
 // The rounds of document 01, one after the other, the filed way: each round looks only at the moves into the positions that the round before
 // placed.
+#![tactic(auto)]
+
 ghost use Rattle.std.specs.Prelude.{◌≡◌, ℕ, ◌+◌, ◌*◌, ◌<◌, ◌≤◌, length, get_or, eqb};
 ghost use Rattle.search.specs.Below.{bit};
 ghost use Rattle.rows.specs.Rows.{ChartRows, RowIs};

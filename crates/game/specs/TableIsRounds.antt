@@ -4,7 +4,7 @@ use Prim.Native.Nat.{ℕ, zero, suc, ◌<◌}
 use Rattle.std.specs.Prelude.{◌≡◌, refl, ◌⊎◌, ◌↔◌, Bool, not, ◌&&◌, length, T}
 use Rattle.std.proofs.Common.{sym, ◌∙◌, subst, inl, inr, eqb→eq, T_not}
 use Rattle.std.proofs.Math.Path.{ap}
-use Rattle.std.proofs.Math.Logic.{Iff·trans}
+use Rattle.std.proofs.Math.Logic.Iff
 use Rattle.std.proofs.Math.Dec.{eqb_refl, not_T}
 use Rattle.game.specs.Value.{fin, ever}
 use Rattle.game.specs.Arena.{Arena, Owner, controller, environment, nobody, WellFormed, size, owner_at, Meant, Disturbance, may_be_disturbed}
@@ -176,7 +176,7 @@ module _ (a : Arena) (wf : WellFormed a) where
   -- "Round (k, s) has v", as the table says it
   pub table-is-the-rounds : (k s v : ℕ) → Round a k s v ↔ (placement_at (table a) v ≡ placed k s)
   unfolding Round
-  table-is-the-rounds k s v = Iff·trans (joins-in a k (level-is k) s v) (table-has-the-taken a k s v)
+  table-is-the-rounds k s v = Iff.trans (joins-in a k (level-is k) s v) (table-has-the-taken a k s v)
 
   -- "Positions never placed"
   pub table-has-the-never-placed : (v : ℕ) → NeverPlaced a v ↔ (placement_at (table a) v ≡ unplaced)

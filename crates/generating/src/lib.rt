@@ -1,4 +1,6 @@
 // Generating: the text of a small chart from its index.
+#![tactic(auto)]
+
 ghost use Rattle.std.specs.Prelude.{◌≡◌};
 ghost use Rattle.generating.specs.Generating.{GeneratedIs, SquaresFit, SquaresWritten, is_index};
 

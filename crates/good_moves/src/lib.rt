@@ -1,4 +1,6 @@
 // The good moves of a chart's rows: the console's meant moves into positions of at least the value of the position that they leave.
+#![tactic(auto)]
+
 ghost use Rattle.std.specs.Prelude.{◌≡◌, ◌<◌, ◌≤◌, length, get_or};
 ghost use Rattle.rows.specs.Rows.{Within};
 ghost use Rattle.good_moves.specs.Picking.{Picked, PickedMove, is_good};

@@ -1,5 +1,7 @@
 // A house of lanes (document 02, order 7): one console drives 1 to 64 lanes of the same machine. Either every lane that reports moves, as
 // a single report moves it, or none does. The plate is tested once for the whole house.
+#![tactic(auto)]
+
 ghost use Rattle.std.specs.Prelude.{◌≡◌, List, ℕ, ◌≤◌, length};
 ghost use Rattle.rows.specs.Rows.{Ascending, ChartRows};
 ghost use Rattle.plate.specs.Formed.{form_of};
@@ -16,14 +18,14 @@ use rows::{Chart, NONE};
 use run::{Answer, Run};
 
 // What a house's report answers: how many lanes moved; or the lowest lane that is refused with its refusal, lane 0 where the house is.
-#[derive(Drop)]
+#[derive(Clone, Copy)]
 pub enum Housed {
     Moved(usize),
     Refused(usize, Refusal),
 }
 
 // A house that is handed back: its records, how many of them are to be put back, 0 where it is refused, and the answer.
-#[derive(Drop)]
+#[derive(Clone, Copy)]
 pub struct House {
     pub runs: [Run; Run::LANES],
     pub written: usize,

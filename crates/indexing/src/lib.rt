@@ -1,4 +1,6 @@
 // Indexing: the index of a small chart.
+#![tactic(auto)]
+
 ghost use Rattle.std.specs.Prelude.{◌≡◌, ◌≤◌, length};
 ghost use Rattle.rows.specs.Rows.{ChartRows};
 ghost use Rattle.indexing.specs.Indexing.{RowsIndexed, indexed, rests_below};
@@ -10,7 +12,7 @@ use rows::Chart;
 use squares::{index_of, square_of};
 
 // What Indexing answers: the index, or a refusal: the chart's, or 21 for a chart of another sort.
-#[derive(Drop)]
+#[derive(Clone, Copy)]
 pub enum Indexed {
     Index(usize),
     Refused(Refusal),

@@ -2,6 +2,8 @@
 // `stdin` has the cases, `stdout` what the documents say of each. The first letter of a case's name is its job: `E` examines a chart, `C`
 // is Checking, `R` Reading, `W` the program's answer, `S` a step of a run, `D` Comparing, `G` Listing, `P` the way to ruin, `H` a step of a
 // house, `V` Valuing, the filed way and the plain one, `N` the small chart of an index and `I` the index of a small chart.
+#![tactic(auto)]
+
 ghost use Rattle.cases.specs.CaseLaws.{Ordered};
 ghost use Rattle.std.specs.Prelude.{length};
 
@@ -21,14 +23,14 @@ mod ways;
 mod writer;
 
 // Where the next case begins, and what it goes on with.
-#[derive(Drop)]
+#[derive(Clone, Copy)]
 struct Next {
     at: usize,
     held: Held,
 }
 
 // What the cases leave to each other: a run, and the lanes of a house.
-#[derive(Drop)]
+#[derive(Clone, Copy)]
 struct Held {
     run: Run,
     lanes: Lanes,

@@ -4,7 +4,7 @@ use crate::{runs, writer};
 use valuing::{Valued, value_chart, value_plain};
 
 // The lengths of the rows that are lent.
-#[derive(Drop)]
+#[derive(Clone, Copy)]
 struct Lent {
     values: usize,
     choices: usize,

@@ -1,5 +1,7 @@
 // The collection's program: reads a chart from standard input and writes its plate, or on refusal the line `R`, number, line in
 // the chart's columns.
+#![tactic(auto)]
+
 use libc::{STDIN_FILENO, STDOUT_FILENO};
 use rows::Chart;
 

@@ -1,6 +1,8 @@
 // The line of every sheet: a letter, some number of fields, a line feed. What a field of it reads as, over any number of fields; what
 // stands in the fields of a chart and of a plate is said there (specs/Text.antt, specs/LineLaws.antt). What making a field and a line
 // promises is in specs/Made.antt; the crate `making` makes fields.
+#![tactic(auto)]
+
 ghost use Rattle.std.specs.Prelude.{◌≡◌, [], ◌∷◌, ◌+◌, ◌≤◌, length};
 ghost use Rattle.field.specs.Text.{five};
 ghost use Rattle.line.specs.Text.{entry_at, same_text, line_size, framed};
@@ -8,7 +10,7 @@ ghost use Rattle.line.specs.Text.{entry_at, same_text, line_size, framed};
 use field::Field;
 
 // What a field reads as.
-#[derive(Drop)]
+#[derive(Clone, Copy)]
 pub enum Entry {
     Number(u32),
     Dash,

@@ -1,4 +1,6 @@
 // Listing: a chart into the sheet of its good moves.
+#![tactic(auto)]
+
 ghost use Rattle.rows.specs.Rows.{ChartRows};
 ghost use Rattle.listing.specs.Listing.{ListedIs, RowsListed};
 
@@ -11,7 +13,7 @@ use rows::Chart;
 use sheet_lines::write_lines;
 
 // What Listing answers: the count of lines, or a refusal: the chart's, or 10 for a buffer that the lines do not fit.
-#[derive(Drop)]
+#[derive(Clone, Copy)]
 pub enum Listed {
     Lines(usize),
     Refused(Refusal),

@@ -1,5 +1,7 @@
 // Making a field (document 02, order 3): its five bytes go straight to their place in a part of the buffer, as a space and a word of four
 // bytes where they can. What is promised of the part is FieldMade, in line's specs/Made.antt.
+#![tactic(auto)]
+
 ghost use Rattle.std.specs.Prelude.{◌≡◌, ◌+◌, ◌≤◌, length};
 ghost use Rattle.std.proofs.lemmas.List.Edits.{sets};
 ghost use Rattle.line.specs.Made.{FieldMade};

@@ -1,4 +1,6 @@
 // What a move from one position to another is, over a chart's rows.
+#![tactic(auto)]
+
 ghost use Rattle.std.specs.Prelude.{◌≡◌, List, ℕ, ◌≤◌, ◌<◌, length};
 ghost use Rattle.rows.specs.Rows.{Ascending, ChartRows, Within};
 ghost use Rattle.rows.specs.Numbers.{number_at};
@@ -6,7 +8,7 @@ ghost use Rattle.rows.specs.Notes.{found};
 ghost use Rattle.moves.specs.Moves.{FirstFrom, KindIs, leads_to};
 
 // A meant move that may follow, a disturbance, or a move that can't follow.
-#[derive(Drop)]
+#[derive(Clone, Copy)]
 pub enum Kind {
     Meant,
     Disturbance,

@@ -1,4 +1,6 @@
 // What the filed rounds count down: the code of each move, and how many moves of a code are needed.
+#![tactic(auto)]
+
 ghost use Rattle.std.specs.Prelude.{◌≡◌, ℕ, ◌+◌, ◌*◌, ◌<◌, ◌≤◌, length, get_or, eqb, cond};
 ghost use Rattle.rows.specs.Rows.{Filled, Stays};
 ghost use Rattle.needs.specs.Needs.{Needs, code_of};

@@ -1,5 +1,7 @@
 // The plate's text (document 01, "The plate") at the level of rows: whether a text is of the form under 11, and the header and the
 // three rows of numbers of one that is. 65,535 stands for `ever` and `-` in the rows.
+#![tactic(auto)]
+
 ghost use Rattle.std.specs.Prelude.{◌≡◌, ◌+◌, ◌*◌, ◌≤◌, length};
 ghost use Rattle.search.specs.First.{first_from};
 ghost use Rattle.line.specs.Text.{entry_at};
@@ -15,7 +17,7 @@ pub const FIELDS: usize = 4;
 pub const LINE: usize = 22;
 
 // What examining a plate finds: the form, or the lowest line that is not of it.
-#[derive(Drop)]
+#[derive(Clone, Copy)]
 pub enum Form {
     Good,
     Bad(usize),

@@ -1,4 +1,6 @@
 // A plate's header and three rows of numbers set out as its lines (document 01, "The plate"), straight into the lent buffer.
+#![tactic(auto)]
+
 ghost use Rattle.std.specs.Prelude.{◌≡◌, ◌++◌, ◌+◌, ◌*◌, ◌≤◌, ◌<◌, length, drop};
 ghost use Rattle.rows.specs.Numbers.{value_of, row_value};
 ghost use Rattle.line.specs.Made.{FieldMade, LineMade};

@@ -1,5 +1,7 @@
 // A plate into rows in one walk by expected words. The walk knows what the bytes of an entry must be, and passes a plate only if every
 // line is of the form; where it stops, the plate is examined exactly (crate plate), so it decides no refusal.
+#![tactic(auto)]
+
 ghost use Rattle.std.specs.Prelude.{◌≡◌, ◌+◌, ◌*◌, ◌≤◌, ◌<◌, length};
 ghost use Rattle.rows.specs.Rows.{RowIs};
 ghost use Rattle.spelling.specs.Words.{spelt};
@@ -13,14 +15,14 @@ use rows::{Chart, FirstLine, NONE, clear};
 use spelling::{spell_all, word};
 
 // What a plate is: the first line's numbers, with the rows beside them, or the lowest line that is not of the form.
-#[derive(Drop)]
+#[derive(Clone, Copy)]
 pub enum Sheet {
     Rows(FirstLine),
     Bad(usize),
 }
 
 // What a line is taken for: whether it is of the form, and its numbers if it is.
-#[derive(Drop)]
+#[derive(Clone, Copy)]
 struct Line {
     good: bool,
     value: u16,

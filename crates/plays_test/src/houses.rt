@@ -33,7 +33,7 @@ type Lanes = [Run; 64];
 type Row = [u16; 65];
 
 // What is due: the lanes that can move; the lowest refused and its refusal, number 0 for none; the records to be put back, and the lanes.
-#[derive(Drop)]
+#[derive(Clone, Copy)]
 struct Due {
     moved: usize,
     lane: usize,

@@ -1,6 +1,8 @@
 // Holds runs, ways to ruin and houses of lanes against another implementation of the documents' definitions, on every chart of one and two
 // positions and on pseudo-random ones. It writes what was compared, a line for each kind of chart, and each comparison that fails with its
 // chart. Nothing but the jobs that are compared is shared with the library.
+#![tactic(auto)]
+
 use crate::houses::compare_house;
 use crate::reports::{COUNTED, Card, compare_run};
 use crate::ways::compare_ways;

@@ -31,7 +31,7 @@ const SWAPPED: usize = 8;
 const MOST: usize = 99999;
 
 // A chart: its kind, and its number or what it is drawn from.
-#[derive(Drop)]
+#[derive(Clone, Copy)]
 pub struct Card {
     pub kind: usize,
     pub number: usize,
@@ -39,7 +39,7 @@ pub struct Card {
 }
 
 // A run by the definitions.
-#[derive(Drop)]
+#[derive(Clone, Copy)]
 struct Model {
     position: usize,
     seen: usize,
@@ -48,7 +48,7 @@ struct Model {
 }
 
 // The library's run, the same by the definitions, and the texts of the last step that was taken.
-#[derive(Drop)]
+#[derive(Clone, Copy)]
 struct Followed {
     run: Run,
     model: Model,
@@ -56,7 +56,7 @@ struct Followed {
 }
 
 // What the library answers to a start or a report.
-#[derive(Drop)]
+#[derive(Clone, Copy)]
 pub struct Step {
     pub refusal: Numbers,
     pub run: Run,
@@ -64,7 +64,7 @@ pub struct Step {
 }
 
 // What the definitions answer: the refusal's number, 0 for none, its position and condition, and the run.
-#[derive(Drop)]
+#[derive(Clone, Copy)]
 struct Due {
     number: usize,
     position: usize,

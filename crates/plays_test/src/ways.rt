@@ -27,7 +27,7 @@ const PLAYS: usize = 11;
 const LONGEST: usize = 12;
 
 // What is asked: the text's length, the refusal that its damage brings, 0 for none, with its line; the length of the row of choices; the position.
-#[derive(Drop)]
+#[derive(Clone, Copy)]
 struct Question {
     size: usize,
     number: usize,

@@ -1,4 +1,6 @@
 // Reading (document 01, "The jobs"): a chart and a plate of the form under 11 into the first line's numbers and three rows.
+#![tactic(auto)]
+
 ghost use Rattle.reading.specs.Reading.{ReadingIs};
 
 use chart::{Examination, examine};
@@ -8,7 +10,7 @@ use rows::FirstLine;
 
 // What Reading answers: the first line's numbers, or a refusal: the chart's, 10 where a row is shorter than the count of positions, or
 // 11.
-#[derive(Drop)]
+#[derive(Clone, Copy)]
 pub enum Reading {
     Rows(FirstLine),
     Refused(Refusal),

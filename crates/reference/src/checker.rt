@@ -6,7 +6,7 @@ use crate::sheet::{
 };
 
 // Where a plate is at fault, and the condition; condition 0 where it is accepted.
-#[derive(Drop)]
+#[derive(Clone, Copy)]
 pub struct Fault {
     pub position: usize,
     pub condition: usize,

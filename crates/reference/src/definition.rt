@@ -6,7 +6,7 @@ use crate::sheet::{
 };
 
 // What is weighed of a move from v to t.
-#[derive(Drop)]
+#[derive(Clone, Copy)]
 pub enum Weight {
     // t's entry in a column.
     Entry(usize),
@@ -105,7 +105,7 @@ pub fn target(chart: &Chart, v: usize, kind: usize, i: usize) -> usize {
 }
 
 // How an entry comes about.
-#[derive(Drop)]
+#[derive(Clone, Copy)]
 pub enum Rule {
     All(usize),
     // v is in the set that follows the one whose positions have this value.

@@ -68,7 +68,7 @@ pub fn write_chart(page: &mut Page, chart: &Chart) -> usize {
 }
 
 // A text as it is lent: its length, and the refusal that its damage brings, 0 for none, with its line.
-#[derive(Drop)]
+#[derive(Clone, Copy)]
 pub struct Damaged {
     pub size: usize,
     pub number: usize,

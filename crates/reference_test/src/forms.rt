@@ -6,7 +6,7 @@ use reference::sheet::{
 };
 
 // A position's form: its letter, 0 past the last form, its mark, and the sets of its meant targets and of its disturbances'.
-#[derive(Drop)]
+#[derive(Clone, Copy)]
 struct Form {
     letter: usize,
     mark: usize,

@@ -3,6 +3,8 @@
 // fails with its chart. Some kinds come again with marks left blank, by draws of their own: the numbers must be the same. Then come charts
 // with positions of rest, whose count stands in the line, Valuing by the filed way and the plain one, and small charts with their indices.
 // Nothing but the jobs that are compared is shared with the library.
+#![tactic(auto)]
+
 use crate::compare::{RESTS, compare_chart};
 use crate::small::compare_small;
 use crate::values::compare_both;

@@ -24,7 +24,7 @@ const MISDRAWN: usize = 3;
 const SHORT: usize = 4;
 
 // What is asked: the text's length, the refusal that its damage brings, 0 for none, with its line; the lengths of the three rows.
-#[derive(Drop)]
+#[derive(Clone, Copy)]
 struct Question {
     size: usize,
     number: usize,

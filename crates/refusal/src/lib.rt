@@ -1,10 +1,12 @@
 // The refusal table (document 01, "Refusal table"): every refusal of every job, and the numbers that each gives.
+#![tactic(auto)]
+
 ghost use Rattle.std.specs.Prelude.{◌≡◌};
 ghost use Rattle.refusal.specs.Numbers.{misdrawn_line, misdrawn_number, no_numbers, numbers_of, refusal_condition, refusal_line, refusal_number, refusal_position};
 
 // Refusals 1 to 9 and 17 in the order of their tests, which a chart alone can give, each with its line where that is not always line 0. 17 is
 // tested beside 7 (document 02, order 4).
-#[derive(Drop)]
+#[derive(Clone, Copy)]
 pub enum Misdrawn {
     Length,
     Form(usize),
@@ -21,7 +23,7 @@ pub enum Misdrawn {
 // The table in the order of its tests: 20, a chart's refusal, 21, then 10 to 16, 18 and 19. 11 has the plate's line, 14 the fault's position
 // and condition. 18 is tested between 14 and 15 (document 02, order 5), 19 after 13, by the way to ruin only (order 6), 20 before the
 // chart, by a house of lanes only (order 7), 21 after 9 and before 10, by the jobs of small charts only (order 9).
-#[derive(Drop)]
+#[derive(Clone, Copy)]
 pub enum Refusal {
     Lanes,
     Chart(Misdrawn),
@@ -39,7 +41,7 @@ pub enum Refusal {
 
 // A refusal in the table's numbers, 0 where it has none; all are 0 where nothing is refused.
 #[repr(C)]
-#[derive(Drop)]
+#[derive(Clone, Copy)]
 pub struct Numbers {
     pub number: u32,
     pub line: usize,

@@ -1,4 +1,6 @@
 // What the program writes for a chart: its plate, or the line of its refusal.
+#![tactic(auto)]
+
 ghost use Rattle.std.specs.Prelude.{◌≤◌, length};
 ghost use Rattle.response.specs.Response.{Responded};
 

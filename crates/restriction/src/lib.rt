@@ -1,4 +1,6 @@
 // A row of choices over a chart's rows: whether every choice is legal, and the moves that stay where the controller makes these choices.
+#![tactic(auto)]
+
 ghost use Rattle.std.specs.Prelude.{◌≡◌, not, ◌<◌, ◌≤◌, length, get_or};
 ghost use Rattle.rows.specs.Rows.{Within};
 ghost use Rattle.rows.specs.Numbers.{number_at};

@@ -1,4 +1,6 @@
 // One round of document 01, the plain way: it walks all moves against the table as it was, and then places.
+#![tactic(auto)]
+
 ghost use Rattle.std.specs.Prelude.{◌≡◌, ◌<◌, ◌≤◌, false, cond, not, ◌&&◌, length, get_or, set, eqb};
 ghost use Rattle.search.specs.Below.{bit};
 ghost use Rattle.game.specs.Table.{of_kind};

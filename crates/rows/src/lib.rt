@@ -1,5 +1,7 @@
 // What every job on rows of numbers shares: the limits, the number that stands for "ever" and the dash, the first line's numbers, and
 // the clearing of rows.
+#![tactic(auto)]
+
 ghost use Rattle.std.specs.Prelude.{◌≤◌, length};
 ghost use Rattle.rows.specs.Rows.{Filled};
 
@@ -7,7 +9,7 @@ ghost use Rattle.rows.specs.Rows.{Filled};
 pub const NONE: u16 = 65535;
 
 // The counts of an accepted chart, with the limits of every chart.
-#[derive(Drop)]
+#[derive(Clone, Copy)]
 pub struct Chart {
     pub positions: usize,
     pub moves: usize,
@@ -27,7 +29,7 @@ impl Chart {
 // The first line's numbers: how many different pairs of value and step there are, the highest finite value (NONE if none), and how
 // many "ever".
 #[repr(C)]
-#[derive(Drop)]
+#[derive(Clone, Copy)]
 pub struct FirstLine {
     pub rounds: u16,
     pub highest: u16,

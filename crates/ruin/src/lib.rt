@@ -1,4 +1,6 @@
 // The way to ruin: a chart, a row of choices and a position into the sheet of the shortest unsafe play.
+#![tactic(auto)]
+
 ghost use Rattle.std.specs.Prelude.{◌≡◌, List, ℕ, ◌<◌, ◌≤◌, length, get_or};
 ghost use Rattle.game.specs.Value.{Value};
 ghost use Rattle.game.specs.Arena.{Arena};

@@ -1,5 +1,7 @@
 // The run (document 01, "The run", and document 02, order 5): it begins by the start job, which wants an accepted plate, and each report
 // moves it on, on an accepted plate that has the value that the run holds.
+#![tactic(auto)]
+
 ghost use Rattle.std.specs.Prelude.{◌≡◌, List, ℕ, ◌≤◌, ◌<◌};
 ghost use Rattle.rows.specs.Rows.{Ascending, ChartRows};
 ghost use Rattle.plate.specs.Formed.{form_of};
@@ -16,7 +18,7 @@ use rows::Chart;
 // The position that the machine stands at, the disturbances seen, the value at the start, and the value at the position, 65,535 for
 // "ever".
 #[repr(C)]
-#[derive(Drop)]
+#[derive(Clone, Copy)]
 pub struct Run {
     position: usize,
     seen: u32,
@@ -26,28 +28,28 @@ pub struct Run {
 
 // The plate's choice and value at the position now held, as numbers in rows.
 #[repr(C)]
-#[derive(Drop)]
+#[derive(Clone, Copy)]
 pub struct Advice {
     pub choice: u16,
     pub value: u16,
 }
 
 // What a start answers: the run with its advice, or a refusal: the chart's, 11, 13 or 14.
-#[derive(Drop)]
+#[derive(Clone, Copy)]
 pub enum Started {
     Begun(Run, Advice),
     Refused(Refusal),
 }
 
 // What a report answers beside the run: advice, or a refusal: the chart's, 11, 13, 14, 18, 15 or 16.
-#[derive(Drop)]
+#[derive(Clone, Copy)]
 pub enum Answer {
     Taken(Advice),
     Refused(Refusal),
 }
 
 // The run that a report hands back, and its answer.
-#[derive(Drop)]
+#[derive(Clone, Copy)]
 pub struct Reported {
     pub run: Run,
     pub answer: Answer,

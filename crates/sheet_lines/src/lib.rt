@@ -1,5 +1,7 @@
 // Lines of a sheet in the chart's columns: a letter, two numbers, a line feed. One line, and rows of two numbers set out as lines,
 // straight into the lent buffer.
+#![tactic(auto)]
+
 ghost use Rattle.std.specs.Prelude.{◌≡◌, [], ◌∷◌, ◌++◌, ◌*◌, ◌≤◌, length, drop};
 ghost use Rattle.line.specs.Made.{LineMade};
 ghost use Rattle.line.specs.declared.Entry.TheVariants.{Number};

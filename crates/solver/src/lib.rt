@@ -1,4 +1,6 @@
 // The rounds of document 01, one after the other, the plain way: each round walks all moves.
+#![tactic(auto)]
+
 ghost use Rattle.std.specs.Prelude.{◌<◌, ◌≤◌, length};
 ghost use Rattle.rows.specs.Rows.{Within, ChartRows};
 ghost use Rattle.solver.specs.Solving.{NextValue, Settling, Solved, Solving};

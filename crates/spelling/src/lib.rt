@@ -1,6 +1,8 @@
 // Words of bytes. Whoever knows what a text must hold compares four neighbouring bytes at once with the word expected there, and whoever
 // writes stores four at once; a number below 1,000 fills the last three bytes of a field. What a word tells of the bytes is in
 // specs/WordLaws.antt.
+#![tactic(auto)]
+
 ghost use Rattle.std.specs.Prelude.{◌≡◌, ◌+◌, ◌≤◌, ◌<◌, length};
 ghost use Rattle.rows.specs.Rows.{Filled};
 ghost use Rattle.spelling.specs.Words.{WordIs, spelt, zeros_of};

@@ -1,5 +1,7 @@
 // A chart held as squares, set out as the lines of its text: position lines, and for each position the lines of its meant moves and of its
 // disturbances, straight into the lent buffer.
+#![tactic(auto)]
+
 ghost use Rattle.std.specs.Prelude.{◌≡◌, ◌*◌, ◌≤◌, ◌<◌, length};
 ghost use Rattle.search.specs.Below.{count_below};
 ghost use Rattle.line.specs.Joined.{joined};

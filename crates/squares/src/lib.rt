@@ -1,5 +1,7 @@
 // Between the index of a small chart and the chart held as squares: its digits, and of each position what its digit says. A chart has at
 // most three positions, so that each array has three places; nothing is said of those past the chart's positions.
+#![tactic(auto)]
+
 ghost use Rattle.std.specs.Prelude.{◌≡◌, false, ◌^◌, ◌≤◌, length, get_or};
 ghost use Rattle.search.specs.Below.{bit};
 ghost use Rattle.rows.specs.Rows.{RowIs, Within};

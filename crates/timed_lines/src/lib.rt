@@ -1,5 +1,7 @@
 // The writers of lines as functions on pointers and lengths, each thin over the writer with the writer's own contract: `conformance/timings`
 // times them without a job around them. Nothing else uses this.
+#![tactic(auto)]
+
 ghost use Rattle.std.specs.Prelude.{◌≡◌, ◌++◌, ◌+◌, ◌*◌, ◌≤◌, length, drop};
 ghost use Rattle.rows.specs.Numbers.{row_value};
 ghost use Rattle.plate.specs.Text.{plate_text};

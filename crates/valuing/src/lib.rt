@@ -1,4 +1,6 @@
 // Valuing: a chart into rows of values, choices and steps.
+#![tactic(auto)]
+
 ghost use Rattle.std.specs.Prelude.{◌<◌, ◌≤◌, length};
 ghost use Rattle.rows.specs.Rows.{ChartRows};
 ghost use Rattle.solver.specs.Solving.{Solved};
@@ -14,7 +16,7 @@ use rows::{Chart, FirstLine};
 use solver::solve;
 
 // What Valuing answers: the count of rounds, or a refusal: the chart's, or 10 where a row is shorter than the count of positions.
-#[derive(Drop)]
+#[derive(Clone, Copy)]
 pub enum Valued {
     Rounds(u16),
     Refused(Refusal),

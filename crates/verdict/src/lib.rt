@@ -1,4 +1,6 @@
 // Checking over rows: the first fault of a plate's rows, positions from 0 up and in each the conditions in order.
+#![tactic(auto)]
+
 ghost use Rattle.std.specs.Prelude.{◌≡◌, ◌≤◌, ◌<◌, length, get_or};
 ghost use Rattle.rows.specs.Rows.{Ascending, ChartRows, Within};
 ghost use Rattle.rows.specs.Numbers.{row_value};
@@ -13,7 +15,7 @@ use first_line::count_first_line;
 use rows::{Chart, FirstLine};
 
 // No fault, or the first one's position and condition.
-#[derive(Drop)]
+#[derive(Clone, Copy)]
 pub enum Verdict {
     Sound,
     Fault(usize, u8),

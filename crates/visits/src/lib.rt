@@ -1,5 +1,7 @@
 // One round of document 01, the filed way: it looks only at the moves into the positions that the round before placed. The moves are filed by
 // target, each as the entry of its code; the last need of a code places its position, or makes it due.
+#![tactic(auto)]
+
 ghost use Rattle.std.specs.Prelude.{◌≡◌, true, ℕ, ◌+◌, ◌/◌, ◌<◌, ◌≤◌, length, get_or, ltb};
 ghost use Rattle.rows.specs.Numbers.{free};
 ghost use Rattle.visits.specs.Steps.{Delayed, Fired, Looked, Put};
@@ -9,7 +11,7 @@ use needs::MET;
 use rows::NONE;
 
 // How many positions are in the order, that is placed, and how many are in the list of those due at the next value.
-#[derive(Drop)]
+#[derive(Clone, Copy)]
 pub struct Lists {
     pub tail: usize,
     pub late: usize,

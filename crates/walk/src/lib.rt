@@ -1,5 +1,7 @@
 // A chart read in one walk: each line is compared with the words that it must have, and the rows are written on the way. A walk that
 // passes is an accepted text (specs/Walked.antt); one that stops says nothing, and `chart::examine` answers.
+#![tactic(auto)]
+
 ghost use Rattle.std.specs.Prelude.{◌≡◌, true, ℕ, ◌+◌, ◌*◌, ◌≤◌, ◌<◌, length};
 ghost use Rattle.rows.specs.Rows.{RowIs, owner_number};
 ghost use Rattle.chart.specs.Meaning.{owner_of};

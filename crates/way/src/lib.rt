@@ -1,1 +1,3 @@
 // This crate has no code: its definitions and theorems are in specs/.
+
+#![tactic(auto)]

@@ -1,5 +1,7 @@
 // The shortest way to ruin over rows: the moves that lower the worth by their cost, the lowest next position of each that shortens the way, and
 // the positions that the way comes through.
+#![tactic(auto)]
+
 ghost use Rattle.std.specs.Prelude.{◌≡◌, ◌&&◌, ◌+◌, ◌<◌, ◌≤◌, length, get_or, ltb};
 ghost use Rattle.rows.specs.Rows.{Filled, Within};
 ghost use Rattle.rows.specs.Filling.{set_if};

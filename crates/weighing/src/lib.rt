@@ -1,4 +1,6 @@
 // Weighing: a chart and a row of choices into the worths of the positional controller that makes them.
+#![tactic(auto)]
+
 ghost use Rattle.std.specs.Prelude.{◌≤◌, length};
 ghost use Rattle.game.specs.Play.{Legal};
 ghost use Rattle.game.specs.Arena.{Arena};
@@ -15,7 +17,7 @@ use rows::Chart;
 
 // What Weighing answers: that the worths are there, or a refusal: the chart's, 10 where a row is shorter than the count of positions,
 // or 12 where a choice is not legal.
-#[derive(Drop)]
+#[derive(Clone, Copy)]
 pub enum Weighed {
     Done,
     Refused(Refusal),

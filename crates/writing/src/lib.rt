@@ -1,4 +1,6 @@
 // Writing: a chart into its plate.
+#![tactic(auto)]
+
 ghost use Rattle.std.specs.Prelude.{◌+◌, ◌*◌, ◌<◌, ◌≤◌, length};
 ghost use Rattle.rows.specs.Rows.{ChartRows};
 ghost use Rattle.writing.specs.Writing.{PlateWritten, WrittenIs};
@@ -12,7 +14,7 @@ use rows::Chart;
 use valuing::value_rows;
 
 // What Writing answers: the plate's length, or a refusal: the chart's, or 10 for a buffer that the plate does not fit.
-#[derive(Drop)]
+#[derive(Clone, Copy)]
 pub enum Written {
     Length(usize),
     Refused(Refusal),

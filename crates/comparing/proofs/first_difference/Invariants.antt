@@ -1,0 +1,15 @@
+-- `first_difference` meets its contract. The invariant: the first difference of what is left is that of all. Equal numbers leave that
+-- as it is, others end it, and with nothing left there is none: the laws of a search's three turns.
+use Prim.Native.Nat.{◌-◌, ◌≤◌}
+use mathlib.Core.Path.{◌≡◌}
+use Rattle.rows.specs.Numbers.{number_at}
+use Rattle.search.specs.First.{first_from}
+use Rattle.comparing.specs.Comparing.{first_difference}
+use Rattle.comparing.specs.declared.Compared.TheVariants.{Agree}
+use Rattle.comparing.proofs.first_difference.Given as goal
+
+abbrev pub invariant-loop-v : goal.invariant-loop-v
+invariant-loop-v l = (l.v ≤ l.n) × (first_from (same l.values l.worths) (differ l.values l.worths) Agree (l.n - l.v) l.v ≡ first_difference (number_at l.values) (number_at l.worths) l.n)
+
+abbrev pub decreases-loop-v : goal.decreases-loop-v
+decreases-loop-v l = l.n - l.v

@@ -1,0 +1,9 @@
+-- `damage_test::table::judge` is safe and ends: it counts `i` up to `lines`.
+use Prim.Native.Nat.{◌-◌, ◌≤◌}
+use Rattle.damage_test.proofs.table.judge.Given as goal
+
+abbrev pub invariant-loop-i : goal.invariant-loop-i
+invariant-loop-i l = l.i ≤ l.lines
+
+abbrev pub decreases-loop-i : goal.decreases-loop-i
+decreases-loop-i l = l.lines - l.i

@@ -1,0 +1,27 @@
+-- `decode::load_exactly` meets its contract: a refusal clears the rows, and an accepted text's rows are those of its arena.
+use native.Mathlib.Omega.{arith}
+use mathlib.Core.Path.{sym, ◌∙◌}
+use Rattle.decode.specs.LoadedLaws.{positions-fit, moves-fit, accepted-loads, refused-loads}
+use borrow.Author.Rules.{rules}
+use Rattle.decode.proofs.load_exactly.Goals as goal
+
+pub decode_positions-requires : goal.decode_positions-requires
+decode_positions-requires c =
+    let e = sym c.examine.ensures ∙ c.chart-1.given.1 in
+    let few = (positions-fit c.args.text.now _ e).few in
+    (e, (omega (arith, few, c.requires.in_bounds), omega (arith, few, c.requires.in_bounds)))
+
+pub decode_moves-requires : goal.decode_moves-requires
+decode_moves-requires c =
+    let e = sym c.examine.ensures ∙ c.chart-1.given.1 in
+    let few = (moves-fit c.args.text.now _ e).few.1 in
+    (e, (omega (arith, few, c.requires.in_bounds_2), omega (arith, few, c.requires.in_bounds_2), omega (arith, few, c.requires.in_bounds_2)))
+
+pub returns-in-Refused : goal.returns-in-Refused
+returns-in-Refused c =
+    refused-loads _ _ _ _ _ _ _ _ _ _ _ _ (sym c.examine.ensures ∙ c.r-1.given.1) c.clear_rows.ensures
+
+pub returns-in-Accepted : goal.returns-in-Accepted
+returns-in-Accepted c =
+    accepted-loads _ _ _ _ _ _ _ _ _ _ _ _ (sym c.examine.ensures ∙ c.chart-1.given.1) (search rules, search rules) (search rules, search rules, search rules)
+    c.decode_positions.ensures c.decode_moves.ensures

@@ -1,0 +1,7 @@
+-- `dushemqa_check` meets its contract: the job's answer, in numbers.
+use mathlib.Core.Path.{◌∙◌, ap}
+use Rattle.answers.specs.Numbers.{checked_numbers}
+use Rattle.dushemqa.proofs.dushemqa_check.Goals as goal
+
+pub returns : goal.returns
+returns c = c.checked_numbers.ensures ∙ ap checked_numbers c.check.ensures

@@ -1,0 +1,7 @@
+-- `dushemqa_small_index` meets its contract: the job's answer, in numbers.
+use mathlib.Core.Path.{◌∙◌, ap}
+use Rattle.answers.specs.Numbers.{indexed_numbers}
+use Rattle.dushemqa.proofs.dushemqa_small_index.Goals as goal
+
+pub returns : goal.returns
+returns c = c.indexed_numbers.ensures ∙ ap indexed_numbers c.index_small_chart.ensures

@@ -1,0 +1,8 @@
+-- `refused` meets its contract: the fields are those of the definition.
+use mathlib.Core.Path.{refl}
+use Rattle.house.specs.Driving.{refused_house}
+use Rattle.house.proofs.refused.Goals as goal
+
+pub returns : goal.returns
+unfolding refused_house
+returns c = refl

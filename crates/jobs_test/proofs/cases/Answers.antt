@@ -1,0 +1,7 @@
+-- `cases` is safe and ends: it counts the cases.
+use Prim.Native.Nat.{◌-◌}
+use Rattle.cases.specs.CaseLaws.{case-ordered}
+use Rattle.jobs_test.proofs.cases.Goals as goal
+
+pub show_case-next-requires : goal.show_case-next-requires
+show_case-next-requires c = rw c.case_at.ensures (case-ordered _ _)

@@ -1,0 +1,20 @@
+-- `jobs_test::charts::put_line` is safe: each store and each call keeps the text's length.
+use native.Mathlib.Omega.{arith}
+use mathlib.Core.Path.{◌≡◌, ◌∙◌}
+use lib.ListN.{length, length-set}
+use Rattle.jobs_test.proofs.charts.put_line.Goals as goal
+
+first-length : (c : tie.After-write) → length c.write.new.1.0 ≡ length c.before.before.before.before.before.args.text.now
+first-length c = c.write.auto.1.0 ∙ simp length-set
+
+pub write-requires : goal.write-requires
+write-requires c = simp length-set (omega arith)
+
+pub write-requires-then-at-text : goal.write-requires-then-at-text
+write-requires-then-at-text c = omega (arith, first-length c)
+
+pub bounds-text-at-then-at-text : goal.bounds-text-at-then-at-text
+bounds-text-at-then-at-text c = omega (arith, c.write-then-at-text.auto.1.0, first-length c)
+
+pub shape_of-text : goal.shape_of-text
+shape_of-text c = simp length-set (c.write-then-at-text.auto.1.0 ∙ first-length c)

@@ -1,0 +1,20 @@
+-- `plate::dash_or_below` meets its contract, by the cases of the entry.
+use Rattle.plate.specs.Formed.{dash_or_below}
+use Rattle.search.proofs.Cases.{cases}
+use Rattle.plate.proofs.dash_or_below.Goals as goal
+
+pub returns-in-Number : goal.returns-in-Number
+unfolding dash_or_below
+returns-in-Number c = simp (← c.read_entry.ensures, c.x-1.given.1) (search cases)
+
+pub returns-in-Dash : goal.returns-in-Dash
+unfolding dash_or_below
+returns-in-Dash c = simp (← c.read_entry.ensures, c.enum_told-1.given.1)
+
+pub returns-in-Ever : goal.returns-in-Ever
+unfolding dash_or_below
+returns-in-Ever c = simp (← c.read_entry.ensures, c.enum_told-in-Ever-1.given.1)
+
+pub returns-in-Bad : goal.returns-in-Bad
+unfolding dash_or_below
+returns-in-Bad c = simp (← c.read_entry.ensures, c.enum_told-in-Bad-1.given.1)

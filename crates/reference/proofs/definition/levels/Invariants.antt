@@ -1,0 +1,9 @@
+-- `reference::definition::levels` is safe and ends: it counts `k` up to `n`.
+use Prim.Native.Nat.{◌-◌, ◌≤◌}
+use Rattle.reference.proofs.definition.levels.Given as goal
+
+abbrev pub invariant-loop-k : goal.invariant-loop-k
+invariant-loop-k l = l.k ≤ l.n
+
+abbrev pub decreases-loop-k : goal.decreases-loop-k
+decreases-loop-k l = l.n - l.k

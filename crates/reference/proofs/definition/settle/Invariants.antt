@@ -1,0 +1,9 @@
+-- `reference::definition::settle` is safe and ends: it counts `i` up to `rounds`.
+use Prim.Native.Nat.{◌-◌, ◌≤◌}
+use Rattle.reference.proofs.definition.settle.Given as goal
+
+abbrev pub invariant-loop-i : goal.invariant-loop-i
+invariant-loop-i l = l.i ≤ l.rounds
+
+abbrev pub decreases-loop-i : goal.decreases-loop-i
+decreases-loop-i l = l.rounds - l.i

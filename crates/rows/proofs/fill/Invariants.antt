@@ -1,0 +1,10 @@
+-- `fill` meets its contract: the invariant says that the row is filled up to v and has kept its length.
+use Prim.Native.Nat.{◌≤◌, ◌-◌}
+use Rattle.rows.specs.Rows.{Filled}
+use Rattle.rows.proofs.fill.Given as goal
+
+abbrev pub invariant-loop-v : goal.invariant-loop-v
+invariant-loop-v l = (l.v ≤ l.n) × Filled l.initial.row l.row l.v (λ j. l.x)
+
+abbrev pub decreases-loop-v : goal.decreases-loop-v
+decreases-loop-v l = l.n - l.v

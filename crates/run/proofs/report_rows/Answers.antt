@@ -1,0 +1,27 @@
+-- `report_rows` meets its contract: a position outside is 13 or 11, else Checking's refusal is handed on, and an accepted plate is gone into.
+use Rattle.checking.specs.CheckingLaws.{accepted-form}
+use Rattle.run.specs.RunningLaws.{accepted-report, own-outside, refused-report, to-outside}
+use Rattle.run.proofs.report_rows.Goals as goal
+
+pub returns-then-n-run : goal.returns-then-n-run
+returns-then-n-run c = rw (c.unmoved.ensures, c.off_chart.ensures) (own-outside _ _ _ c.if-n-run.true)
+
+pub returns-then-n-to : goal.returns-then-n-to
+returns-then-n-to c =
+    rw (c.unmoved-then-n-to.ensures, c.off_chart-then-n-to.ensures) (to-outside _ _ _ c.if-n-run.false c.if-n-to.true)
+
+pub report_accepted-requires : goal.report_accepted-requires
+report_accepted-requires c =
+    let pre = c.requires in
+    let form = accepted-form _ pre.0.1 c.check_plate.ensures c.enum_told-1.given.1 in
+    ((_, pre.0), pre.1, form, c.if-n-run.false, c.if-n-to.false)
+
+pub returns-in-Refused : goal.returns-in-Refused
+returns-in-Refused c =
+    rw c.unmoved-in-Refused.ensures
+    (refused-report _ _ _ c.if-n-run.false c.if-n-to.false c.check_plate.ensures _ c.r-1.given.1)
+
+pub returns-in-Accepted : goal.returns-in-Accepted
+returns-in-Accepted c =
+    accepted-report _ _ _ c.if-n-run.false c.if-n-to.false c.check_plate.ensures c.enum_told-1.given.1
+    c.report_accepted.ensures

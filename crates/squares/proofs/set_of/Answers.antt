@@ -1,0 +1,31 @@
+-- `set_of` meets its contract: the sum is the number of the set, which is below 8.
+use Prim.Native.Nat.{◌<◌}
+use native.Mathlib.Omega.{arith}
+use mathlib.Core.Bool.{false}
+use lib.ListN.{get_or}
+use Rattle.numbering.specs.Numbering.{set_number}
+use Rattle.numbering.specs.SetLaws.{set-bound}
+use Rattle.squares.proofs.set_of.Goals as goal
+
+small : (c : tie.Start) → set_number (λ w. get_or c.args.t1 w false) 3 < 8
+small c = set-bound (λ w. get_or c.args.t1 w false) 3
+
+pub overflow_mul-result : goal.overflow_mul-result
+unfolding set_number
+overflow_mul-result c = omega (arith, small c)
+
+pub overflow_add-result : goal.overflow_add-result
+unfolding set_number
+overflow_add-result c = omega (arith, small c)
+
+pub overflow_mul-result-2 : goal.overflow_mul-result-2
+unfolding set_number
+overflow_mul-result-2 c = omega (arith, small c)
+
+pub overflow_add-result-2 : goal.overflow_add-result-2
+unfolding set_number
+overflow_add-result-2 c = omega (arith, small c)
+
+pub returns : goal.returns
+unfolding set_number
+returns c = omega arith

@@ -1,0 +1,26 @@
+-- `value_rows` meets its contract: the rows hold some arena, so its finite pairs are below 512, and for each arena that they
+-- hold the rows and the first line's numbers are that arena's.
+use native.Mathlib.Omega.{arith}
+use borrow.Author.Rules.{rules}
+use Rattle.valuing.specs.ValuingLaws.{pairs-fit, rows-valued}
+use Rattle.valuing.proofs.value_rows.Goals as goal
+
+pub choose-requires : goal.choose-requires
+choose-requires c =
+    let pre = c.requires in
+    ((_, pre.0), search rules, search rules)
+
+pub count_first_line-requires : goal.count_first_line-requires
+count_first_line-requires c =
+    let pre = c.requires in
+    let solved = c.solve-by in
+    let kept = solved.auto.1.1.1.1.1.1.1.1 in
+    let held = pre.0 in
+    (held.1.few-positions, omega (arith, pre.1, kept), omega (arith, pre.3, kept), pairs-fit solved.ensures kept.0 kept.1.0 held.0 held.1)
+
+pub returns : goal.returns
+returns c =
+    let solved = c.solve-by in
+    let chosen = c.choose in
+    let kept = solved.auto.1.1.1.1.1.1.1.1 in
+    rows-valued solved.ensures kept.0 kept.1.0 chosen.ensures chosen.auto.1.1.1.1.1.1.1.0 c.count_first_line.ensures

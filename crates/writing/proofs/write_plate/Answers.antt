@@ -1,0 +1,38 @@
+-- `write_plate` meets its contract: the chart's refusal is handed on, a short buffer is 10, and loaded rows are valued and
+-- written.
+use Prim.Native.Nat.{◌-◌}
+use native.Mathlib.Omega.{arith}
+use mathlib.Core.Path.{◌≡◌, sym, ◌∙◌}
+use borrow.Author.Tests.{le-leb}
+use Rattle.search.proofs.Cases.{cases}
+use Rattle.chart.specs.Examined.{examined}
+use Rattle.chart.specs.declared.Examination.TheVariants.{Accepted}
+use Rattle.writing.specs.WritingLaws.{written-refused, written-short, written-taken}
+use Rattle.writing.proofs.write_plate.Goals as goal
+
+-- where the chart is known to be accepted, it was loaded before
+abbrev loading : tie.After-chart → tie.After-load
+loading c = c.before.before.before.before.before.before.before
+
+accepted : (c : tie.After-chart) → examined (loading c).before.before.before.before.before.before.before.before.args.text.now ≡ Accepted c.chart.given.0.0
+accepted c = sym (loading c).load.ensures.answer ∙ c.chart.given.1
+
+pub overflow_add-size : goal.overflow_add-size
+overflow_add-size c = omega (arith, ((loading c).load.ensures.taken _ c.chart-1.given.1).rows.few-positions)
+
+pub overflow_mul-size : goal.overflow_mul-size
+overflow_mul-size c = omega (arith, ((loading c).load.ensures.taken _ c.chart-1.given.1).rows.few-positions)
+
+pub returns-then-out-size : goal.returns-then-out-size
+returns-then-out-size c = written-short (accepted c) (search cases)
+
+pub write_valued-requires : goal.write_valued-requires
+write_valued-requires c =
+    ((_, ((loading c).load.ensures.taken _ c.chart-1.given.1).rows), c.if-out-size.false)
+
+pub returns-in-Refused : goal.returns-in-Refused
+returns-in-Refused c = written-refused (sym c.load.ensures.answer ∙ c.r-1.given.1)
+
+pub returns-else-out-size : goal.returns-else-out-size
+returns-else-out-size c =
+    written-taken (accepted c) (le-leb _ _ c.if-out-size.false) ((loading c).load.ensures.taken _ c.chart-1.given.1).rows c.write_valued.ensures
