@@ -78,6 +78,48 @@ class Function:
         for (old, new), asked in zip(names["needs"], names["asked_at"]):
             self.needs.setdefault(norm(old), (new, asked[0]))
 
+    def expand(self, text, helpers, aliases, var):
+        """Names of places come to be `var`; the other helpers come to be lets in front."""
+        arg = r"(\((?:[^()]|\([^()]*\))*\)|[\w'-]+(?:\.before)*)"
+        used = []
+
+        def calls(t):
+            for name, h in helpers.items():
+                pattern = re.compile(r"(?<![\w'.-])" + re.escape(name) + r"\s+" + arg)
+                while True:
+                    m = pattern.search(t)
+                    if not m:
+                        break
+                    if h["place"]:
+                        t = t[:m.start()] + var + t[m.end():]
+                    else:
+                        t = t[:m.start()] + "\0" + name + "\0" + t[m.end():]
+                        if name not in used:
+                            used.append(name)
+            t = re.sub(r"\(" + re.escape(var) + r"\)", var, t)
+            return t
+
+        text = calls(text)
+        lets, done = [], set()
+
+        def add(name):
+            if name in done:
+                return
+            done.add(name)
+            h = helpers[name]
+            # (the helper's own place is this one)
+            sub = re.compile(r"(?<![\w'.-])" + re.escape(h["var"]) + r"(?![\w'-])")
+            kind, code = calls(sub.sub(var, h["type"])), calls(sub.sub(var, h["body"]))
+            for other in re.findall(r"\0([^\0]+)\0", kind + code):
+                add(other)
+            if h["rest"]:
+                code = f"λ {' '.join(h['rest'])}. {code}"
+            lets.append(f"let {name} : {kind} = {code} in")
+        for name in list(used):
+            add(name)
+        text = "\n    ".join(lets + [text]) if lets else text
+        return text.replace("\0", "")
+
     def path(self, place, befores, rest, notes):
         """`c` at `place`, `befores` up, then the fields of `rest`."""
         for _ in range(befores):
@@ -90,9 +132,9 @@ class Function:
         first, tail = rest.split(".")[1], "".join("." + p for p in rest.split(".")[2:])
         if first in ("args", "well_formed", "ranges"):
             return "c." + first + tail, place
-        if first == "requires":
+        if first in ("requires", "pre"):
             return "c.requires" + label_path(tail, self.labels.get(self.fn, ([], []))[0]), place
-        at = place
+        at = self.base
         while at is not None:
             oldf, newf = self.field[at]
             if norm(oldf) == norm(first) and oldf:
@@ -101,6 +143,12 @@ class Function:
                     short = callee.split("::")[-1]
                     have = self.labels.get(f"{callee.split('::')[0]}::{short}") or self.labels.get(short) or ([], [])
                     tail = ".ensures" + label_path(tail[len(".ensures"):], have[1])
+                if callee and tail.startswith(".auto."):
+                    steps = tail.split(".")[2:]
+                    index = next((k for k, s in enumerate(steps) if s != "1"), len(steps))
+                    names = self.names["params"].get(callee, [])
+                    if index < len(names):
+                        tail = ".auto." + names[index] + "".join("." + s for s in steps[index + 1:])
                 # (a test of `!b` now says what `b` is)
                 if newf.startswith("if-not-") and tail in (".true", ".false"):
                     return f"(not_from_{'false' if tail == '.true' else 'true'} _ c.{newf}{tail})", place
@@ -109,11 +157,13 @@ class Function:
         notes.append(f"no step {first} at {place}")
         return f"c.{first}{tail}", place
 
-    def body(self, text, place, var, notes):
+    def body(self, text, place, var, notes, helpers=None):
+        self.base = place
         aliases = {var: place}
+        text = self.expand(text, helpers or {}, aliases, var)
         path = re.compile(r"(?<![\w'.-])(" + WORD + r")((?:\.before)*)((?:\.[A-Za-z0-9_][\w'-]*)*)")
         # a name for a place: put the path in its stead
-        let = re.compile(r"let (\w[\w'-]*) = (" + WORD + r")((?:\.before)+) in\s*")
+        let = re.compile(r"let (\w[\w'-]*) = (" + WORD + r")((?:\.before)*) in\s*")
         while True:
             found = None
             for m in let.finditer(text):
@@ -133,6 +183,68 @@ class Function:
                 return m.group(0)
             return self.path(aliases[m.group(1)], m.group(2).count(".before"), m.group(3), notes)[0]
         return path.sub(turn, text)
+
+
+def split_tuple(text):
+    text = text.strip()
+    if not text.startswith("(") or not text.endswith(")"):
+        return None
+    depth, parts, at = 0, [], 1
+    for i, ch in enumerate(text):
+        if ch in "({[":
+            depth += 1
+        elif ch in ")}]":
+            depth -= 1
+            if depth == 0 and i != len(text) - 1:
+                return None
+        elif ch == "," and depth == 1:
+            parts.append(text[at:i].strip())
+            at = i + 1
+    last = text[at:-1].strip()
+    return parts + [last] if last else parts
+
+
+def clauses_of(body, need, fun):
+    """What a call with several `requires` asks is a record now, and was nested pairs."""
+    m = re.match(r"(.*)_requires(?:_\d+)?$", need)
+    if not m:
+        return body
+    labels = fun.labels.get(m.group(1), ([], []))[0]
+    if len(labels) < 2:
+        return body
+    at = 0
+    while True:
+        k = re.compile(r"\s*let ").match(body, at)
+        if not k:
+            break
+        depth, i = 0, k.end()
+        while i < len(body):
+            if body.startswith(" in", i) and depth == 0 and re.match(r" in\s", body[i:]):
+                break
+            if body.startswith("let ", i) and (i == 0 or not body[i - 1].isalnum()):
+                depth += 1
+            elif re.match(r" in\s", body[i:]) and depth:
+                depth -= 1
+            i += 1
+        at = i + 3
+    head, rest = body[:at], body[at:]
+    parts, values = split_tuple(rest), []
+    while parts and len(values) < len(labels) - 1:
+        if len(parts) == len(labels) - len(values):
+            values += parts
+            parts = None
+        elif len(parts) == 2:
+            values.append(parts[0])
+            parts = split_tuple(parts[1]) if len(values) < len(labels) - 1 else [parts[1]]
+            if parts and len(values) == len(labels) - 1:
+                values += parts
+                parts = None
+        else:
+            return body
+    if len(values) != len(labels):
+        return body
+    gap = re.match(r"\s*", rest).group(0)
+    return head + (gap or " " * bool(head)) + "record { " + "; ".join(f"{l} = {v}" for l, v in zip(labels, values)) + " }"
 
 
 def convert(file, fun, crate, sub, notes):
@@ -159,7 +271,27 @@ def convert(file, fun, crate, sub, notes):
         block.append(line)
     if block:
         blocks.append("\n".join(block).rstrip())
-    inv, ans, pre = [], [], []
+    inv, ans = [], []
+    helpers, kinds = {}, set()
+    for b in blocks:
+        bl = [l for l in b.split("\n") if not l.startswith("--") and not l.startswith("unfolding")]
+        m = re.match(r"(?:abbrev )?(\S+) : (.*)$", "\n".join(bl), re.S)
+        if not m or re.match(r"tie\.(Need|invariant|decreases)", m.group(2)):
+            continue
+        name, rest = m.groups()
+        cut = re.search(r"\n(" + re.escape(name) + r"(?: [^=\n]*)?) =\s*(.*)$", rest, re.S)
+        if not cut:
+            continue
+        ty, args, code = " ".join(rest[:cut.start()].split()), cut.group(1).split()[1:], cut.group(2).strip()
+        if ty == "Type 0" and re.match(r"(tie|lts)\.", code):
+            kinds.add(name)
+            continue
+        place = r"(?:(?:tie|lts)\.(?:Start|At|In|After|Then|Else)[^→]*?|" + ("|".join(map(re.escape, kinds)) or "\0") + r")"
+        p = re.match(r"(?:\((\S+) : " + place + r"\)|" + place + r") → (.*)$", ty) or re.match(r"\((\S+) : " + place + r"\) (\(.*)$", ty)
+        if not p or not args:
+            continue
+        helpers[name] = {"var": args[0], "rest": args[1:], "type": p.group(2), "body": code,
+                         "place": bool(re.match(r"(?:tie|lts)\.", p.group(2))) or p.group(2) in kinds}
     comment = ""
     for b in blocks:
         if all(l.startswith("--") or not l.strip() for l in b.split("\n")):
@@ -234,7 +366,8 @@ def convert(file, fun, crate, sub, notes):
             args = [a for a in args if a != "κs"]
             var = args[0] if args else "c"
             my = []
-            body = fun.body(body, place, var, my)
+            body = fun.body(body, place, var, my, helpers)
+            body = clauses_of(body, need, fun)
             notes.extend(f"{new}: {n}" for n in my)
             if var == "_" and "c." in body:
                 var = "c"
@@ -242,6 +375,9 @@ def convert(file, fun, crate, sub, notes):
             gap = "\n    " if "\n" in gap else " "
             out.append(f"{new} {' '.join(['c'] + args[1:])} ={gap}{body}")
             ans.append(comment + "\n".join(out))
+            comment = ""
+            continue
+        if name in helpers or name in kinds:
             comment = ""
             continue
         if re.search(r"\b(tie|lts|reads)\.", b):

@@ -28,7 +28,7 @@ after_header-requires c =
     let limits = w.0 in
     let n : chart.positions ≡ positions_of text = ap (λ (k : Chart). k.positions) w.1 in
     let m : chart.moves ≡ moves_of text = ap (λ (k : Chart). k.moves) w.1 in
-    (omega arith, (omega arith, omega arith))
+    record { moves_in_bounds = omega arith; positions_bound = (omega arith, omega arith) }
 
 pub returns-in-Refused : goal.returns-in-Refused
 unfolding examined lines_after

@@ -31,7 +31,7 @@ loop-line-init c =
     )
 
 pub line_fault-requires : goal.line_fault-requires
-line_fault-requires c = ((omega arith, omega arith), (c.row_at-row.ensures, c.loop-line.invariant.2))
+line_fault-requires c = record { le_line = (omega arith, omega arith); row_value = (c.row_at-row.ensures, c.loop-line.invariant.2) }
 
 pub shape_of-flags-in-Fault : goal.shape_of-flags-in-Fault
 shape_of-flags-in-Fault c = c.loop-line.invariant.4
@@ -55,7 +55,7 @@ loop-line-preserved c =
       rw e c.row_at-row.ensures,
       first_next _ (line_finding a.text.now a.n) Clean (a.last + 1) c.loop-line.line (omega arith) (ap is_clean (sym c.line_fault.ensures ∙ c.enum_told-1.given.1))
           ∙ c.loop-line.invariant.3,
-      c.flag_row.auto.1.1.0 ∙ c.loop-line.invariant.4,
+      c.flag_row.auto.flags ∙ c.loop-line.invariant.4,
       λ v h.
           c.flag_row.ensures v (subst (λ (l : ℕ). v < l) (sym c.loop-line.invariant.4) h)
           ∙ ap (λ (w : ℕ). cond (cond (ltb a.n c.loop-line.line) (meant_row c.row_at-row.result v) false) 1 w) (c.loop-line.invariant.5 v h)

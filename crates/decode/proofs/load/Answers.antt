@@ -27,7 +27,7 @@ load_exactly-requires-in-Accepted c =
     let four = rows.froms-kept.same_length in
     let five = rows.tos-kept.same_length in
     let pre = c.requires in
-    ((omega (arith, pre.0.0), omega (arith, pre.0.1)), (omega (arith, pre.1.0), omega (arith, pre.1.1), omega (arith, pre.1.2)))
+    record { in_bounds = (omega (arith, pre.0.0), omega (arith, pre.0.1)); in_bounds_2 = (omega (arith, pre.1.0), omega (arith, pre.1.1), omega (arith, pre.1.2)) }
 
 pub returns-else-walk : goal.returns-else-walk
 returns-else-walk c =

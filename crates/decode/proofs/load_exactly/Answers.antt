@@ -9,13 +9,13 @@ pub decode_positions-requires : goal.decode_positions-requires
 decode_positions-requires c =
     let e = sym c.examine.ensures ∙ c.chart-1.given.1 in
     let few = (positions-fit c.args.text.now _ e).few in
-    (e, (omega (arith, few, c.requires.in_bounds), omega (arith, few, c.requires.in_bounds)))
+    record { text_value = e; positions_in_bounds = (omega (arith, few, c.requires.in_bounds), omega (arith, few, c.requires.in_bounds)) }
 
 pub decode_moves-requires : goal.decode_moves-requires
 decode_moves-requires c =
     let e = sym c.examine.ensures ∙ c.chart-1.given.1 in
     let few = (moves-fit c.args.text.now _ e).few.1 in
-    (e, (omega (arith, few, c.requires.in_bounds_2), omega (arith, few, c.requires.in_bounds_2), omega (arith, few, c.requires.in_bounds_2)))
+    record { text_value = e; moves_in_bounds = (omega (arith, few, c.requires.in_bounds_2), omega (arith, few, c.requires.in_bounds_2), omega (arith, few, c.requires.in_bounds_2)) }
 
 pub returns-in-Refused : goal.returns-in-Refused
 returns-in-Refused c =

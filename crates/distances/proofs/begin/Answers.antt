@@ -7,23 +7,19 @@ use Rattle.distances.specs.QueueLaws.{queue-most, queue-room}
 use Rattle.distances.specs.SearchLaws.{begun-none, begun-turn, begun-lengths, begun_all}
 use Rattle.distances.proofs.begin.Goals as goal
 
--- where the rows came in
-abbrev start : tie.At-loop invariant-loop decreases-loop → tie.Start invariant-loop decreases-loop
-start c = c.before.before.before.before.before.before.before.before
-
 pub loop-v-init : goal.loop-v-init
 loop-v-init c = (omega arith, refl, refl, begun-none c.clear.ensures.row)
 
 pub begin_at-tail-requires : goal.begin_at-tail-requires
 begin_at-tail-requires c =
-    let pre = (start c).requires in
+    let pre = c.requires in
     let turn = c.loop-v-test.true in
     let queue = c.loop-v.invariant.3.queue in
     (omega (arith, pre), omega (arith, pre), omega (arith, pre, c), omega (arith, queue-most queue, pre), λ none. omega (arith, queue-room queue turn none, pre, c))
 
 pub loop-v-preserved : goal.loop-v-preserved
 loop-v-preserved c =
-    let pre = (start c).requires in
+    let pre = c.requires in
     let turn = c.loop-v-test.true in
     let at = c.begin_at-tail.ensures in
     let sizes = begun-lengths at in

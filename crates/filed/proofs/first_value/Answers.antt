@@ -6,42 +6,42 @@ use Rattle.filed.proofs.first_value.Goals as goal
 
 pub begin_value-tail-requires : goal.begin_value-tail-requires
 begin_value-tail-requires c =
-    let gathered = c.gather.ensures in
-    let steps = c.clear2.ensures in
+    let gathered = c.gather-late.ensures in
+    let steps = c.clear-2.ensures in
     let values = c.clear.ensures in
-    ((_, marked-gathered c.args.marks.now _ c.requires.n_in_bounds.0.0.few-positions values.row gathered _ _ (omega (arith, values.same_length, c.requires)) (omega (arith, steps.same_length, c.requires)) (omega (arith, c.requires)) (omega (arith, c.gather.auto, c.requires))), omega arith)
+    ((_, marked-gathered c.args.marks.now _ c.requires.n_in_bounds.0.0.few-positions values.row gathered _ _ (omega (arith, values.same_length, c.requires)) (omega (arith, steps.same_length, c.requires)) (omega (arith, c.requires)) (omega (arith, c.gather-late.auto, c.requires))), omega arith)
 
 pub settle-requires : goal.settle-requires
 settle-requires c =
     let begin = c.begin_value-tail in
-    let gathered = c.gather.ensures in
-    let due = c.clear3.ensures in
-    let steps = c.clear2.ensures in
+    let gathered = c.gather-late.ensures in
+    let due = c.clear-3.ensures in
+    let steps = c.clear-2.ensures in
     let values = c.clear.ensures in
     let g = c.requires.n_in_bounds.0.0 in
-    let begun = begin.ensures.goes_on _ (marked-gathered c.args.marks.now _ c.requires.n_in_bounds.0.0.few-positions values.row gathered _ _ (omega (arith, values.same_length, c.requires)) (omega (arith, steps.same_length, c.requires)) (omega (arith, c.requires)) (omega (arith, c.gather.auto, c.requires))) in
-    (_, (g, first-ready c.args.marks.now _ g.few-positions values.row gathered begun g _ _ c.requires.n_in_bounds.0.1 due.row (record { needs-row = c.requires.n_in_bounds.1; values-row = omega (arith, begin.auto, values.same_length, c.requires); steps-row = omega (arith, begin.auto, steps.same_length, c.requires); order_row = omega (arith, begin.auto, c.requires); due-row = omega (arith, due.same_length, c.requires); later-row = omega (arith, c.gather.auto, c.requires) })))
+    let begun = begin.ensures.goes_on _ (marked-gathered c.args.marks.now _ c.requires.n_in_bounds.0.0.few-positions values.row gathered _ _ (omega (arith, values.same_length, c.requires)) (omega (arith, steps.same_length, c.requires)) (omega (arith, c.requires)) (omega (arith, c.gather-late.auto, c.requires))) in
+    (_, (g, first-ready c.args.marks.now _ g.few-positions values.row gathered begun g _ _ c.requires.n_in_bounds.0.1 due.row (record { needs-row = c.requires.n_in_bounds.1; values-row = omega (arith, begin.auto, values.same_length, c.requires); steps-row = omega (arith, begin.auto, steps.same_length, c.requires); order_row = omega (arith, begin.auto, c.requires); due-row = omega (arith, due.same_length, c.requires); later-row = omega (arith, c.gather-late.auto, c.requires) })))
 
 pub shape_of-values : goal.shape_of-values
 shape_of-values c = omega (arith, c.settle.auto, c.begin_value-tail.auto, c.clear.auto)
 
 pub shape_of-steps : goal.shape_of-steps
-shape_of-steps c = omega (arith, c.settle.auto, c.begin_value-tail.auto, c.clear2.auto)
+shape_of-steps c = omega (arith, c.settle.auto, c.begin_value-tail.auto, c.clear-2.auto)
 
 pub shape_of-due : goal.shape_of-due
-shape_of-due c = omega (arith, c.settle.auto, c.clear3.auto)
+shape_of-due c = omega (arith, c.settle.auto, c.clear-3.auto)
 
 pub returns : goal.returns
 returns c =
     let begin = c.begin_value-tail in
-    let gathered = c.gather.ensures in
-    let due = c.clear3.ensures in
-    let steps = c.clear2.ensures in
+    let gathered = c.gather-late.ensures in
+    let due = c.clear-3.ensures in
+    let steps = c.clear-2.ensures in
     let values = c.clear.ensures in
     let settle = c.settle in
     record {
       goes_on = λ g first.
-          let begun = begin.ensures.goes_on _ (marked-gathered c.args.marks.now _ c.requires.n_in_bounds.0.0.few-positions values.row gathered _ _ (omega (arith, values.same_length, c.requires)) (omega (arith, steps.same_length, c.requires)) (omega (arith, c.requires)) (omega (arith, c.gather.auto, c.requires))) in
-          let done = settle.ensures.goes_on _ g (first-ready c.args.marks.now _ g.few-positions values.row gathered begun g _ _ first due.row (record { needs-row = c.requires.n_in_bounds.1; values-row = omega (arith, begin.auto, values.same_length, c.requires); steps-row = omega (arith, begin.auto, steps.same_length, c.requires); order_row = omega (arith, begin.auto, c.requires); due-row = omega (arith, due.same_length, c.requires); later-row = omega (arith, c.gather.auto, c.requires) })) in
+          let begun = begin.ensures.goes_on _ (marked-gathered c.args.marks.now _ c.requires.n_in_bounds.0.0.few-positions values.row gathered _ _ (omega (arith, values.same_length, c.requires)) (omega (arith, steps.same_length, c.requires)) (omega (arith, c.requires)) (omega (arith, c.gather-late.auto, c.requires))) in
+          let done = settle.ensures.goes_on _ g (first-ready c.args.marks.now _ g.few-positions values.row gathered begun g _ _ first due.row (record { needs-row = c.requires.n_in_bounds.1; values-row = omega (arith, begin.auto, values.same_length, c.requires); steps-row = omega (arith, begin.auto, steps.same_length, c.requires); order_row = omega (arith, begin.auto, c.requires); due-row = omega (arith, due.same_length, c.requires); later-row = omega (arith, c.gather-late.auto, c.requires) })) in
           (solving-first values steps (marks-placing c.args.marks.now _ g.few-positions values.row gathered begun begin.ensures.values-row begin.ensures.steps-row) done.0, done.1);
     }

@@ -10,19 +10,6 @@ use Rattle.visits.specs.VisitLaws.{as-long-same, as-long-then, as-long-wide, rea
 use Rattle.filed.specs.RoundLaws.{flags-noted, flags-placing, flags-empty}
 use Rattle.filed.proofs.settle.Goals as goal
 
-abbrev start : tie.At-loop invariant-loop decreases-loop → tie.Start invariant-loop decreases-loop
-start c = c.before.before.before.before.before.before.before.before.before
-
--- what the loop knows of the setting that the rows came with
-abbrev so_far : (c : tie.At-loop invariant-loop decreases-loop)
-    → Settling (start c).requires.0 (start c).requires.1.0.m (start c).requires.1.0.owners (start c).requires.1.0.costs (start c).requires.1.0.froms (start c).requires.1.0.tos (start c).args.k c.loop.s (start c).args.values.now (start c).args.steps.now c.loop.values c.loop.steps
-    × Ready (start c).requires.1.0 (start c).args.k c.loop.at c.loop.grown c.loop.needs c.loop.values c.loop.steps c.loop.order c.loop.due c.loop.later × (c.loop.s ≤ c.loop.grown.tail) × ((start c).args.lists.tail ≤ c.loop.grown.tail)
-so_far c = c.loop.invariant.1 _ (start c).requires.1.0 (start c).requires.1.1
-
--- the order is never longer than there are positions
-order-most : (c : tie.At-loop invariant-loop decreases-loop) → c.loop.grown.tail ≤ 512
-order-most c = omega (arith, listed-most (so_far c).1.standing.placed, (start c).requires.1.0.few-positions)
-
 pub loop-grown-init : goal.loop-grown-init
 loop-grown-init c = (
   as-long-same,
@@ -30,10 +17,13 @@ loop-grown-init c = (
 )
 
 pub overflow_add-s : goal.overflow_add-s
-overflow_add-s c = omega (arith, (so_far c).2, order-most c)
+overflow_add-s c = let so_far : Settling c.requires.0 c.requires.1.0.m c.requires.1.0.owners c.requires.1.0.costs c.requires.1.0.froms c.requires.1.0.tos c.args.k c.loop-grown.s c.args.values.now c.args.steps.now c.loop-grown.values c.loop-grown.steps × Ready c.requires.1.0 c.args.k c.loop-grown.at c.loop-grown.grown c.loop-grown.needs c.loop-grown.values c.loop-grown.steps c.loop-grown.order c.loop-grown.due c.loop-grown.later × (c.loop-grown.s ≤ c.loop-grown.grown.tail) × (c.args.lists.tail ≤ c.loop-grown.grown.tail) = c.loop-grown.invariant.1 _ c.requires.1.0 c.requires.1.1 in
+    let order-most : c.loop-grown.grown.tail ≤ 512 = omega (arith, listed-most (so_far).1.standing.placed, c.requires.1.0.few-positions) in
+    omega (arith, (so_far).2, order-most)
 
 pub visit_round-grown-requires : goal.visit_round-grown-requires
-visit_round-grown-requires c = (_, ((start c).requires.1.0, (so_far c).1))
+visit_round-grown-requires c = let so_far : Settling c.requires.0 c.requires.1.0.m c.requires.1.0.owners c.requires.1.0.costs c.requires.1.0.froms c.requires.1.0.tos c.args.k c.loop-grown.s c.args.values.now c.args.steps.now c.loop-grown.values c.loop-grown.steps × Ready c.requires.1.0 c.args.k c.loop-grown.at c.loop-grown.grown c.loop-grown.needs c.loop-grown.values c.loop-grown.steps c.loop-grown.order c.loop-grown.due c.loop-grown.later × (c.loop-grown.s ≤ c.loop-grown.grown.tail) × (c.args.lists.tail ≤ c.loop-grown.grown.tail) = c.loop-grown.invariant.1 _ c.requires.1.0 c.requires.1.1 in
+    (_, (c.requires.1.0, (so_far).1))
 
 pub shape_of-needs-then-grown-end : goal.shape_of-needs-then-grown-end
 shape_of-needs-then-grown-end c = omega (arith, c.visit_round-grown.auto, c.loop-grown.invariant.0)
@@ -71,8 +61,9 @@ returns-then-grown-end c =
 
 pub loop-grown-smaller : goal.loop-grown-smaller
 loop-grown-smaller c =
-    let done = c.visit_round-grown.ensures.goes_on _ (start c).requires.1.0 (so_far c).1 in
-    omega (arith, done.grown.longer, c.if-grown-end.false, listed-most done.state.placed, (start c).requires.1.0.few-positions)
+    let so_far : Settling c.requires.0 c.requires.1.0.m c.requires.1.0.owners c.requires.1.0.costs c.requires.1.0.froms c.requires.1.0.tos c.args.k c.loop-grown.s c.args.values.now c.args.steps.now c.loop-grown.values c.loop-grown.steps × Ready c.requires.1.0 c.args.k c.loop-grown.at c.loop-grown.grown c.loop-grown.needs c.loop-grown.values c.loop-grown.steps c.loop-grown.order c.loop-grown.due c.loop-grown.later × (c.loop-grown.s ≤ c.loop-grown.grown.tail) × (c.args.lists.tail ≤ c.loop-grown.grown.tail) = c.loop-grown.invariant.1 _ c.requires.1.0 c.requires.1.1 in
+    let done = c.visit_round-grown.ensures.goes_on _ c.requires.1.0 (so_far).1 in
+    omega (arith, done.grown.longer, c.if-grown-end.false, listed-most done.state.placed, c.requires.1.0.few-positions)
 
 pub loop-grown-preserved : goal.loop-grown-preserved
 loop-grown-preserved c =

@@ -11,28 +11,28 @@ code_moves-requires c = let d = c.requires.chart_rows.0.1 in (d.costs-row, d.fro
 pub file-requires : goal.file-requires
 file-requires c =
     let d = c.requires.chart_rows.0.1 in
-    (d.few-positions, d.few-moves, d.tos-row, omega (arith, c.code-moves.auto, c.requires.m_in_bounds), omega (arith, d.few-positions), c.requires.m_in_bounds.1, (rows-within d).to_inside)
+    (d.few-positions, d.few-moves, d.tos-row, omega (arith, c.code_moves.auto, c.requires.m_in_bounds), omega (arith, d.few-positions), c.requires.m_in_bounds.1, (rows-within d).to_inside)
 
 pub count_needs-requires : goal.count_needs-requires
 count_needs-requires c =
     let d = c.requires.chart_rows.0.1 in
-    let coded = c.code-moves in
+    let coded = c.code_moves in
     (d.few-positions, d.few-moves, d.owners-row, omega (arith, coded.auto, c.requires.m_in_bounds), omega (arith, d.few-positions), λ i l. code-small d i l (coded.ensures.row i l))
 
 pub solve_rounds-requires : goal.solve_rounds-requires
 unfolding setting-of
 solve_rounds-requires c =
     let d = c.requires.chart_rows.0.1 in
-    let coded = c.code-moves in
+    let coded = c.code_moves in
     let filed = c.file in
-    let needed = c.count-needs in
-    ((((setting-of d _ coded.ensures.row filed.ensures (omega (arith, filed.auto, d.few-positions)) (omega (arith, filed.auto, c.requires.m_in_bounds)) needed.ensures.0), λ e l. refl), omega (arith, needed.auto, d.few-positions), d.marks-row, c.requires.chart_rows.1, c.requires.chart_rows.2), (omega (arith, d.few-positions), omega (arith, d.few-positions), omega (arith, d.few-positions)))
+    let needed = c.count_needs in
+    record { n_in_bounds = (((setting-of d _ coded.ensures.row filed.ensures (omega (arith, filed.auto, d.few-positions)) (omega (arith, filed.auto, c.requires.m_in_bounds)) needed.ensures.0), λ e l. refl), omega (arith, needed.auto, d.few-positions), d.marks-row, c.requires.chart_rows.1, c.requires.chart_rows.2); n_in_bounds_2 = (omega (arith, d.few-positions), omega (arith, d.few-positions), omega (arith, d.few-positions)) }
 
 pub returns : goal.returns
 unfolding setting-of
 returns c =
     let d = c.requires.chart_rows.0.1 in
-    let coded = c.code-moves in
+    let coded = c.code_moves in
     let filed = c.file in
-    let needed = c.count-needs in
+    let needed = c.count_needs in
     c.solve_rounds.ensures.goes_on (setting-of d _ coded.ensures.row filed.ensures (omega (arith, filed.auto, d.few-positions)) (omega (arith, filed.auto, c.requires.m_in_bounds)) needed.ensures.0) (λ e l. refl)

@@ -4,29 +4,22 @@ use native.Mathlib.Omega.{arith}
 use Rattle.rows.specs.Rows.{RowIs}
 use Rattle.rows.specs.Numbers.{number_at}
 use Rattle.solver.specs.SolveLaws.{begin-again, solved-after, solving-done}
-use Rattle.visits.specs.Standing.{Setting, Ready}
+use Rattle.visits.specs.Standing.{Ready}
 use Rattle.visits.specs.VisitLaws.{as-long-same, as-long-then}
 use Rattle.filed.proofs.solve_rounds.Goals as goal
 
-abbrev start : tie.At-loop invariant-loop decreases-loop → tie.Start invariant-loop decreases-loop
-start c = c.before.before.before.before.before.before.before.before.before.before.before.before.before.before.before.before.before.before.before.before.before.before.before.before.before.before.before.before.before
-
--- what the loop knows of a setting with which the rows came in
-ready_at : (c : tie.At-loop invariant-loop decreases-loop) (g : Setting (start c).args.n (start c).args.starts.now (start c).args.entries.now) → RowIs (start c).args.needs.now (2 * (start c).args.n) (number_at g.first)
-    → Ready g c.loop.last c.loop.lists.tail c.loop.lists c.loop.needs c.loop.values c.loop.steps c.loop.order c.loop.due c.loop.later
-ready_at c g first = let f = c.before.before.before.before.before.before.before.before.before.before.before.before.before.first-value.ensures.goes_on g first in (c.loop.invariant.1 g (begin-again f.0) f.1).1
-
 pub first_value-lists-requires : goal.first_value-lists-requires
-first_value-lists-requires c = (c.requires.n_in_bounds, c.requires.n_in_bounds_2)
+first_value-lists-requires c = record { n_in_bounds = c.requires.n_in_bounds; n_in_bounds_2 = c.requires.n_in_bounds_2 }
 
 pub loop-last-init : goal.loop-last-init
 loop-last-init c = (as-long-same, λ g so ready. (so, ready), omega arith)
 
 pub overflow_cast-last : goal.overflow_cast-last
-overflow_cast-last c = let s = start c in omega (arith, c.loop-last.invariant.2, s.pre.0.0.0.few-positions)
+overflow_cast-last c = omega (arith, c.loop-last.invariant.2, c.requires.n_in_bounds.0.0.few-positions)
 
 pub next_value-lists-requires : goal.next_value-lists-requires
-next_value-lists-requires c = let s = start c in ((_, (s.pre.0.0.0, ready_at c s.pre.0.0.0 s.pre.0.0.1)), omega (arith, c.loop-last-test.true, s.pre.0.0.0.few-positions))
+next_value-lists-requires c = let ready_at : RowIs c.args.needs.now (2 * c.args.n) (number_at g.first) → Ready g c.loop-last.last c.loop-last.lists.tail c.loop-last.lists c.loop-last.needs c.loop-last.values c.loop-last.steps c.loop-last.order c.loop-last.due c.loop-last.later = λ g first. let f = c.first_value-lists.ensures.goes_on g first in (c.loop-last.invariant.1 g (begin-again f.0) f.1).1 in
+    ((_, (c.requires.n_in_bounds.0.0, ready_at c.requires.n_in_bounds.0.0 c.requires.n_in_bounds.0.1)), omega (arith, c.loop-last-test.true, c.requires.n_in_bounds.0.0.few-positions))
 
 pub shape_of-needs-then-lists-head : goal.shape_of-needs-then-lists-head
 shape_of-needs-then-lists-head c = omega (arith, c.next_value-lists.auto, c.loop-last.invariant.0, c.first_value-lists.auto)
@@ -56,7 +49,7 @@ returns-then-lists-head c =
     }
 
 pub overflow_add-last : goal.overflow_add-last
-overflow_add-last c = let s = start c in omega (arith, c.loop-last-test.true, s.pre.0.0.0.few-positions)
+overflow_add-last c = omega (arith, c.loop-last-test.true, c.requires.n_in_bounds.0.0.few-positions)
 
 pub loop-last-smaller : goal.loop-last-smaller
 loop-last-smaller c = omega (arith, c.loop-last-test.true)

@@ -13,7 +13,7 @@ pub pick_move-count-requires : goal.pick_move-count-requires
 pick_move-count-requires c =
     let inside = c.requires.0 in
     let turn = c.loop-i-test.true in
-    (omega (arith, c, c, inside.from-inside _ turn, inside.to_inside _ turn), omega (arith, c, c))
+    record { i_in_bounds = omega (arith, c, c, inside.from-inside _ turn, inside.to_inside _ turn); at_in_bounds = omega (arith, c, c) }
 
 pub loop-i-preserved : goal.loop-i-preserved
 loop-i-preserved c =

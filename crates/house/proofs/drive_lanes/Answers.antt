@@ -8,13 +8,6 @@ use borrow.Author.Rules.{rules}
 use Rattle.house.specs.DrivingLaws.{lane-moved, lane-quiet, lane-refused, lanes-begin, lanes_end, moved-bound}
 use Rattle.house.proofs.drive_lanes.Goals as goal
 
--- in a turn of the loop: where the function began, and that the lane has a record among those handed in, which are `t1`
-abbrev start : tie.After-shared-slice-known7 invariant-loop decreases-loop → tie.Start invariant-loop decreases-loop
-start c = c.before.before.before.before.before.before.before.before.before
-
-in-house : (c : tie.After-shared-slice-known7 invariant-loop decreases-loop) → c.before.before.loop.lane < length (start c).args.t1
-in-house c = search rules
-
 pub loop-lane-init : goal.loop-lane-init
 loop-lane-init c = lanes-begin _ _ _ _ _ _ _ _ _ _
 
@@ -23,21 +16,23 @@ overflow_cast-to c = omega (arith, c.shared_slice_known-in-loop-lane-1.given c.l
 
 pub returns-in-Refused : goal.returns-in-Refused
 returns-in-Refused c =
+    let in-house : c.loop-lane.lane < length c.args.t1 = search rules in
     rw c.refused.ensures
-    (lane-refused c.loop-lane.invariant (start c).requires.4 c.loop-lane-test.true c.if-to.true (in-house c) _
+    (lane-refused c.loop-lane.invariant c.requires.4 c.loop-lane-test.true c.if-to.true (in-house) _
     c.report_checked-reported.ensures _ c.answer-1.given.1)
 
 pub overflow_add-moved : goal.overflow_add-moved
 overflow_add-moved c =
-    omega (arith, moved-bound c.loop-lane.invariant (start c).requires.4, (start c).requires.3)
+    omega (arith, moved-bound c.loop-lane.invariant c.requires.4, c.requires.3)
 
 pub loop-lane-preserved : goal.loop-lane-preserved
 loop-lane-preserved c =
+    let in-house : c.loop-lane.lane < length c.args.t1 = search rules in
     let inv = c.loop-lane.invariant in
-    let row = (start c).pre.4 in
+    let row = c.requires.4 in
     let inside = c.loop-lane-test.true in
     ⊎_elim
-    (λ w. rw (w.6, w.7) (lane-moved inv row inside w.0.taken (in-house c) _ w.2.ensures _ w.4.given.1))
+    (λ w. rw (w.6, w.7) (lane-moved inv row inside w.0.taken (in-house) _ w.2.ensures _ w.4.given.1))
     (λ w. rw (w.1, w.2) (lane-quiet inv row inside w.0.left))
     c.if-to.branch
 

@@ -6,10 +6,6 @@ use Rattle.indexing.specs.IndexingLaws.{within-three, too_many, at_rest, some-me
 use Rattle.indexing.specs.declared.Indexed.TheVariants.{Index}
 use Rattle.indexing.proofs.index_rows.Goals as goal
 
--- where no position rests, the rows came in before
-abbrev start : tie.Else2 → tie.Start
-start c = c.before.before.before.before.before.before.before.before
-
 pub returns-then-n-gt3 : goal.returns-then-n-gt3
 returns-then-n-gt3 c = record { answer = λ a d. too_many a _ _ _ _ _ _ _ d c.if-n-gt3.true }
 
@@ -17,15 +13,15 @@ pub returns-then-some_rest : goal.returns-then-some_rest
 returns-then-some_rest c = record { answer = λ a d. at_rest a _ _ _ _ _ _ _ d (sym c.some_rest.ensures ∙ c.if-some_rest.true) }
 
 pub square_of-meant-requires : goal.square_of-meant-requires
-square_of-meant-requires c = within-three c.if-n-gt3.false (rows-within (start c).requires.1)
+square_of-meant-requires c = within-three c.if-n-gt3.false (rows-within c.requires.1)
 
 pub square_of-disturbances-requires : goal.square_of-disturbances-requires
-square_of-disturbances-requires c = within-three c.if-n-gt3.false (rows-within (start c).requires.1)
+square_of-disturbances-requires c = within-three c.if-n-gt3.false (rows-within c.requires.1)
 
 pub index_of-requires : goal.index_of-requires
 index_of-requires c =
     let few = c.if-n-gt3.false in
-    let d = (start c).requires.1 in
+    let d = c.requires.1 in
     (few, d.owners-row, d.marks-row, some-meant _ _ _ _ _ _ _ _ d few (sym c.some_rest.ensures ∙ c.if-some_rest.false) c.square_of-meant.result c.square_of-meant.ensures)
 
 pub returns : goal.returns

@@ -3,17 +3,13 @@ use mathlib.Core.Path.{sym, ◌∙◌}
 use Rattle.indexing.specs.IndexingLaws.{indexed-refused, indexed-rows}
 use Rattle.indexing.proofs.index_small_chart.Goals as goal
 
--- where the chart is known to be accepted, it was loaded before
-abbrev loading : tie.After-chart → tie.After-load
-loading c = c.before.before.before.before.before.before.before
-
 pub index_rows-requires : goal.index_rows-requires
 index_rows-requires c =
-    (_, ((loading c).load.ensures.taken _ c.chart-1.given.1).rows)
+    (_, (c.load.ensures.taken _ c.chart-1.given.1).rows)
 
 pub returns-in-Refused : goal.returns-in-Refused
 returns-in-Refused c = indexed-refused _ (sym c.load.ensures.answer ∙ c.r-1.given.1)
 
 pub returns-in-Accepted : goal.returns-in-Accepted
 returns-in-Accepted c =
-    indexed-rows _ (sym (loading c).load.ensures.answer ∙ c.chart-1.given.1) ((loading c).load.ensures.taken _ c.chart-1.given.1).rows c.index_rows.ensures
+    indexed-rows _ (sym c.load.ensures.answer ∙ c.chart-1.given.1) (c.load.ensures.taken _ c.chart-1.given.1).rows c.index_rows.ensures

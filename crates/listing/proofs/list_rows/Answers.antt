@@ -6,13 +6,6 @@ use Rattle.good_moves.specs.PickingLaws.{picked-fewer}
 use Rattle.listing.specs.ListingLaws.{rows_short, rows-listed}
 use Rattle.listing.proofs.list_rows.Goals as goal
 
--- where the moves are picked, the rounds were solved, and before that the rows came in
-abbrev solving : tie.After-pick-good → tie.After-solve-filed
-solving c = c.before.before.before.before.before.before
-
-abbrev start : tie.After-pick-good → tie.Start
-start c = (solving c).before.before.before.before.before.before.before.before.before
-
 pub pick_good-lines-requires : goal.pick_good-lines-requires
 pick_good-lines-requires c =
     let rows = c.requires.1 in
@@ -21,19 +14,19 @@ pick_good-lines-requires c =
 
 pub overflow_mul-lines : goal.overflow_mul-lines
 overflow_mul-lines c =
-    omega (arith, (start c).requires.1.few-moves, picked-fewer c.Pick-Good.ensures)
+    omega (arith, c.requires.1.few-moves, picked-fewer c.Pick-Good.ensures)
 
 pub returns-then-sheet-lines : goal.returns-then-sheet-lines
 returns-then-sheet-lines c =
-    rows_short (solving c).solve-filed.ensures c.Pick-Good.ensures (lt-leb _ _ c.if-sheet-lines.true)
+    rows_short c.solve_filed.ensures c.Pick-Good.ensures (lt-leb _ _ c.if-sheet-lines.true)
 
 pub write_lines-requires : goal.write_lines-requires
 write_lines-requires c =
     let fewer = picked-fewer c.Pick-Good.ensures in
-    let few = (start c).requires.1.few-moves in
+    let few = c.requires.1.few-moves in
     let kept = c.Pick-Good.auto in
     (omega (arith, fewer, few, kept), omega (arith, fewer, few, kept), c.if-sheet-lines.false)
 
 pub returns : goal.returns
 returns c =
-    rows-listed (solving c).solve-filed.ensures c.Pick-Good.ensures (le-leb _ _ c.if-sheet-lines.false) c.write_lines.ensures
+    rows-listed c.solve_filed.ensures c.Pick-Good.ensures (le-leb _ _ c.if-sheet-lines.false) c.write_lines.ensures

@@ -8,28 +8,24 @@ use Rattle.rows.specs.Notes.{found-more, found-next}
 use Rattle.moves.specs.Search.{none_after, none_before}
 use Rattle.moves.proofs.has_move.Goals as goal
 
--- what was required
-abbrev start : tie.At-loop invariant-loop decreases-loop → tie.Start invariant-loop decreases-loop
-start c = c.before.before.before.before
-
 pub loop-i-init : goal.loop-i-init
 loop-i-init c = let pre = c.requires in (omega arith, pre.2.within, none_before _ pre.2)
 
 pub offset_bounds-froms-i : goal.offset_bounds-froms-i
-offset_bounds-froms-i c = omega (arith, (start c).fits)
+offset_bounds-froms-i c = omega (arith, c.fits)
 
 pub bounds-froms-i : goal.bounds-froms-i
-bounds-froms-i c = omega (arith, (start c).pre.0.froms-row)
+bounds-froms-i c = omega (arith, c.requires.0.froms-row)
 
 pub overflow_cast-froms : goal.overflow_cast-froms
 overflow_cast-froms c = omega (arith, c.shared_slice_known-in-loop-i-1.given c.loop-i.i)
 
 pub returns-then-froms-i : goal.returns-then-froms-i
 returns-then-froms-i c =
-    sym (sym (none_after _ (start c).requires.2 c.loop-i.i c.loop-i.invariant.0 c.loop-i-test.true (start c).requires.1 c.if-froms-i.true) ∙ c.loop-i.invariant.2)
+    sym (sym (none_after _ c.requires.2 c.loop-i.i c.loop-i.invariant.0 c.loop-i-test.true c.requires.1 c.if-froms-i.true) ∙ c.loop-i.invariant.2)
 
 pub leads-requires : goal.leads-requires
-leads-requires c = let within = (start c).pre.0 in (omega (arith, within.costs-row), omega (arith, within.tos-row))
+leads-requires c = let within = c.requires.0 in (omega (arith, within.costs-row), omega (arith, within.tos-row))
 
 pub returns-then-leads : goal.returns-then-leads
 returns-then-leads c =

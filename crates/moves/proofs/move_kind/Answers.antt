@@ -5,45 +5,37 @@ use Rattle.rows.specs.RowsLaws.{rows-within}
 use Rattle.moves.specs.MoveLaws.{kind-is}
 use Rattle.moves.proofs.move_kind.Goals as goal
 
--- where the first of v's moves is known, and what was required before
-abbrev start : tie.After-first-from → tie.Start
-start c = c.before.before.before.before.before
-
--- whether a meant move leads to w is known
-abbrev sought : tie.After-has-move → tie.After-first-from
-sought c = c.before
-
 pub first_from-first-requires : goal.first_from-first-requires
 first_from-first-requires c = let pre = c.requires in (pre.0.1.1.few-moves, pre.0.1.1.froms-row, pre.1)
 
 pub has_move-meant-requires : goal.has_move-meant-requires
-has_move-meant-requires c = (rows-within (start c).requires.0.1.1, (start c).requires.1, c.first_from-first.ensures)
+has_move-meant-requires c = (rows-within c.requires.0.1.1, c.requires.1, c.first_from-first.ensures)
 
 pub bounds-owners-v : goal.bounds-owners-v
-bounds-owners-v c = let pre = (start (sought c)).requires in omega (arith, pre.2, pre.0.1.1.owners-row)
+bounds-owners-v c = let pre = c.requires in omega (arith, pre.2, pre.0.1.1.owners-row)
 
 pub returns-then-meant : goal.returns-then-meant
 returns-then-meant c =
-    kind-is _ _ _ (start (sought c)).requires.2 (start (sought c)).requires.3 (rw (eq-eqb _ _ c.if-owner-eq1.true, ← c.has_move-meant.ensures, c.if-meant.true))
+    kind-is _ _ _ c.requires.2 c.requires.3 (rw (eq-eqb _ _ c.if-owner-eq1.true, ← c.has_move-meant.ensures, c.if-meant.true))
 
 pub returns-then-owner-eq1 : goal.returns-then-owner-eq1
 returns-then-owner-eq1 c =
-    kind-is _ _ _ (start (sought c)).requires.2 (start (sought c)).requires.3 (rw (eq-eqb _ _ c.if-owner-eq1.true, ← c.has_move-meant.ensures, c.if-meant.false))
+    kind-is _ _ _ c.requires.2 c.requires.3 (rw (eq-eqb _ _ c.if-owner-eq1.true, ← c.has_move-meant.ensures, c.if-meant.false))
 
 pub returns-then-owner-choice : goal.returns-then-owner-choice
 returns-then-owner-choice c =
-    kind-is _ _ _ (start (sought c)).requires.2 (start (sought c)).requires.3 (rw (ne_eqb _ _ c.if-owner-eq1.false, ← c.has_move-meant.ensures, c.if-owner-choice.true))
+    kind-is _ _ _ c.requires.2 c.requires.3 (rw (ne_eqb _ _ c.if-owner-eq1.false, ← c.has_move-meant.ensures, c.if-owner-choice.true))
 
 pub has_move-requires : goal.has_move-requires
 has_move-requires c =
-    (rows-within (start (sought c)).requires.0.1.1, (start (sought c)).requires.1, (sought c).first-from.ensures)
+    (rows-within c.requires.0.1.1, c.requires.1, c.first_from-first.ensures)
 
 pub returns-then-has_move : goal.returns-then-has_move
 returns-then-has_move c =
-    kind-is _ _ _ (start (sought c)).requires.2 (start (sought c)).requires.3
+    kind-is _ _ _ c.requires.2 c.requires.3
     (rw (ne_eqb _ _ c.if-owner-eq1.false, ← c.has_move-meant.ensures, c.if-owner-choice.false, ← c.has_move.ensures, c.if-has_move.true))
 
 pub returns : goal.returns
 returns c =
-    kind-is _ _ _ (start (sought c)).requires.2 (start (sought c)).requires.3
+    kind-is _ _ _ c.requires.2 c.requires.3
     (rw (ne_eqb _ _ c.if-owner-eq1.false, ← c.has_move-meant.ensures, c.if-owner-choice.false, ← c.has_move.ensures, c.if-has_move.false))

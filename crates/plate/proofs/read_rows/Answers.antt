@@ -9,31 +9,23 @@ use Prim.Native.Nat.{ℕ, ◌+◌, ◌-◌}
 use native.Mathlib.Omega.{arith}
 use Rattle.plate.proofs.read_rows.Goals as goal
 
--- the line of a turn, and the first line
-turn : (c : tie.In-loop invariant-loop decreases-loop) → LineFits c.before.before.before.before.before.before.args.plate.now (c.before.loop.v + 1)
-turn c =
-    let start = c.before.before.before.before.before.before in
-    position-fits start.args.n start.args.plate.now start.requires.0.0 start.requires.0.1 c.before.loop.v c.loop-test.true
-
-first : (c : tie.At-loop invariant-loop decreases-loop) → LineFits c.before.before.before.before.before.args.plate.now 0
-first c =
-    let start = c.before.before.before.before.before in
-    header-fits start.args.n start.args.plate.now start.requires.0.0 start.requires.0.1
-
 pub loop-v-init : goal.loop-v-init
 loop-v-init c = (omega arith, record { value = filled_none _ _; choice = filled_none _ _; step = filled_none _ _ })
 
 pub number_at-requires : goal.number_at-requires
 unfolding column_at
-number_at-requires c = (omega (arith, (turn c).inside), (turn c).second)
+number_at-requires c = let turn : LineFits c.args.plate.now (c.loop-v.v + 1) = position-fits c.args.n c.args.plate.now c.requires.n_bound.0 c.requires.n_bound.1 c.loop-v.v c.loop-v-test.true in
+    (omega (arith, (turn).inside), (turn).second)
 
 pub number_at-requires-in-loop-v : goal.number_at-requires-in-loop-v
 unfolding column_at
-number_at-requires-in-loop-v c = (omega (arith, (turn c).inside), (turn c).third)
+number_at-requires-in-loop-v c = let turn : LineFits c.args.plate.now (c.loop-v.v + 1) = position-fits c.args.n c.args.plate.now c.requires.n_bound.0 c.requires.n_bound.1 c.loop-v.v c.loop-v-test.true in
+    (omega (arith, (turn).inside), (turn).third)
 
 pub number_at-requires-in-loop-v-2 : goal.number_at-requires-in-loop-v-2
 unfolding column_at
-number_at-requires-in-loop-v-2 c = (omega (arith, (turn c).inside), (turn c).fourth)
+number_at-requires-in-loop-v-2 c = let turn : LineFits c.args.plate.now (c.loop-v.v + 1) = position-fits c.args.n c.args.plate.now c.requires.n_bound.0 c.requires.n_bound.1 c.loop-v.v c.loop-v-test.true in
+    (omega (arith, (turn).inside), (turn).fourth)
 
 pub loop-v-preserved : goal.loop-v-preserved
 unfolding value_in_plate choice_in_plate step_in_plate column_at
@@ -49,15 +41,18 @@ loop-v-preserved c =
 
 pub number_at-requires-2 : goal.number_at-requires-2
 unfolding column_at
-number_at-requires-2 c = (omega (arith, (first c).inside), (first c).second)
+number_at-requires-2 c = let first : LineFits c.args.plate.now 0 = header-fits c.args.n c.args.plate.now c.requires.n_bound.0 c.requires.n_bound.1 in
+    (omega (arith, (first).inside), (first).second)
 
 pub number_at-requires-3 : goal.number_at-requires-3
 unfolding column_at
-number_at-requires-3 c = (omega (arith, (first c).inside), (first c).third)
+number_at-requires-3 c = let first : LineFits c.args.plate.now 0 = header-fits c.args.n c.args.plate.now c.requires.n_bound.0 c.requires.n_bound.1 in
+    (omega (arith, (first).inside), (first).third)
 
 pub number_at-requires-4 : goal.number_at-requires-4
 unfolding column_at
-number_at-requires-4 c = (omega (arith, (first c).inside), (first c).fourth)
+number_at-requires-4 c = let first : LineFits c.args.plate.now 0 = header-fits c.args.n c.args.plate.now c.requires.n_bound.0 c.requires.n_bound.1 in
+    (omega (arith, (first).inside), (first).fourth)
 
 pub returns : goal.returns
 unfolding header_in column_at

@@ -14,27 +14,27 @@ make_number-requires c = simp length-set (omega arith)
 pub make_value-requires : goal.make_value-requires
 make_value-requires c =
     let a = c.args in
-    omega (arith, length-set a.part.now 0 86, c.make_number.auto.1.0)
+    omega (arith, length-set a.part.now 0 86, c.make_number.auto.part)
 
 pub make_or_dash-requires : goal.make_or_dash-requires
 make_or_dash-requires c =
     let a = c.args in
-    omega (arith, length-set a.part.now 0 86, c.make_number.auto.1.0, c.make_value.auto.1.0)
+    omega (arith, length-set a.part.now 0 86, c.make_number.auto.part, c.make_value.auto.part)
 
 pub make_or_dash-requires-2 : goal.make_or_dash-requires-2
 make_or_dash-requires-2 c =
     let a = c.args in
-    omega (arith, length-set a.part.now 0 86, c.make_number.auto.1.0, c.make_value.auto.1.0, c.make_or_dash.auto.1.0)
+    omega (arith, length-set a.part.now 0 86, c.make_number.auto.part, c.make_value.auto.part, c.make_or_dash.auto.part)
 
 pub bounds-part-21 : goal.bounds-part-21
 bounds-part-21 c =
     let a = c.args in
-    omega (arith, length-set a.part.now 0 86, c.make_number.auto.1.0, c.make_value.auto.1.0, c.make_or_dash.auto.1.0, c.make_or_dash-2.auto.1.0)
+    omega (arith, length-set a.part.now 0 86, c.make_number.auto.part, c.make_value.auto.part, c.make_or_dash.auto.part, c.make_or_dash-2.auto.part)
 
 pub shape_of-part : goal.shape_of-part
 shape_of-part c =
     let a = c.args in
-    simp length-set (omega (arith, length-set a.part.now 0 86, c.make_number.auto.1.0, c.make_value.auto.1.0, c.make_or_dash.auto.1.0, c.make_or_dash-2.auto.1.0))
+    simp length-set (omega (arith, length-set a.part.now 0 86, c.make_number.auto.part, c.make_value.auto.part, c.make_or_dash.auto.part, c.make_or_dash-2.auto.part))
 
 pub returns : goal.returns
 unfolding FieldsMade

@@ -19,10 +19,7 @@ returns-then-passes c =
 
 pub read_rows-requires : goal.read_rows-requires
 read_rows-requires c =
-    let touched = c.passes.ensures.touched in (
-      (c.requires.0, sym c.examine_plate.ensures ∙ c.enum_told-1.given.1),
-      (omega (arith, touched.value.same_length), omega (arith, touched.choice.same_length), omega (arith, touched.step.same_length)),
-    )
+    let touched = c.passes.ensures.touched in record { n_bound = (c.requires.0, sym c.examine_plate.ensures ∙ c.enum_told-1.given.1); n_in_bounds = (omega (arith, touched.value.same_length), omega (arith, touched.choice.same_length), omega (arith, touched.step.same_length)) }
 
 pub returns-in-Good : goal.returns-in-Good
 unfolding PlateLoadedAs

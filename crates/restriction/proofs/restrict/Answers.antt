@@ -12,7 +12,7 @@ loop-i-init c = (omega arith, omega arith, refl, refl, refl, copied_none)
 pub copy_move-count-requires : goal.copy_move-count-requires
 copy_move-count-requires c =
     let inside = c.requires.within.0.from-inside _ c.loop-i-test.true in
-    (omega (arith, c, c, inside), omega (arith, c, c))
+    record { i_in_bounds = omega (arith, c, c, inside); at_in_bounds = omega (arith, c, c) }
 
 pub loop-i-preserved : goal.loop-i-preserved
 loop-i-preserved c =

@@ -6,23 +6,18 @@ use Rattle.chart.specs.declared.Examination.TheVariants.{Accepted}
 use Rattle.ruin.specs.RuinLaws.{ruined-refused, ruined-short, ruined-rows}
 use Rattle.ruin.proofs.list_way_to_ruin.Goals as goal
 
--- where the chart is known to be accepted, it was loaded before
-abbrev loading : tie.After-chart → tie.After-load
-loading c = c.before.before.before.before.before.before.before
-
-accepted : (c : tie.After-chart) → examined (loading c).before.before.before.before.before.before.before.before.before.args.text.now ≡ Accepted c.chart.given.0.0
-accepted c = sym (loading c).load.ensures.answer ∙ c.chart.given.1
-
 pub returns-then-choices-n : goal.returns-then-choices-n
-returns-then-choices-n c = ruined-short (accepted c) (lt-leb _ _ c.if-choices-n.true)
+returns-then-choices-n c = let accepted : examined c.args.text.now ≡ Accepted c.chart-1.given.0.0 = sym c.load.ensures.answer ∙ c.chart-1.given.1 in
+    ruined-short (accepted) (lt-leb _ _ c.if-choices-n.true)
 
 pub list_rows-requires : goal.list_rows-requires
 list_rows-requires c =
-    ((_, ((loading c).load.ensures.taken _ c.chart-1.given.1).rows), c.if-choices-n.false)
+    ((_, (c.load.ensures.taken _ c.chart-1.given.1).rows), c.if-choices-n.false)
 
 pub returns-in-Refused : goal.returns-in-Refused
 returns-in-Refused c = ruined-refused (sym c.load.ensures.answer ∙ c.r-1.given.1)
 
 pub returns-else-choices-n : goal.returns-else-choices-n
 returns-else-choices-n c =
-    ruined-rows (accepted c) (le-leb _ _ c.if-choices-n.false) ((loading c).load.ensures.taken _ c.chart-1.given.1).rows c.list_rows.ensures
+    let accepted : examined c.args.text.now ≡ Accepted c.chart-1.given.0.0 = sym c.load.ensures.answer ∙ c.chart-1.given.1 in
+    ruined-rows (accepted) (le-leb _ _ c.if-choices-n.false) (c.load.ensures.taken _ c.chart-1.given.1).rows c.list_rows.ensures

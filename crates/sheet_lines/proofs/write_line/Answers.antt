@@ -13,17 +13,17 @@ make_number-requires c = simp length-set (omega arith)
 pub make_number-requires-2 : goal.make_number-requires-2
 make_number-requires-2 c =
     let a = c.args in
-    omega (arith, length-set a.part.now 0 a.letter, c.make_number.auto.1.0)
+    omega (arith, length-set a.part.now 0 a.letter, c.make_number.auto.part)
 
 pub bounds-part-11 : goal.bounds-part-11
 bounds-part-11 c =
     let a = c.args in
-    omega (arith, length-set a.part.now 0 a.letter, c.make_number.auto.1.0, c.make_number-2.auto.1.0)
+    omega (arith, length-set a.part.now 0 a.letter, c.make_number.auto.part, c.make_number-2.auto.part)
 
 pub shape_of-part : goal.shape_of-part
 shape_of-part c =
     let a = c.args in
-    simp length-set (omega (arith, length-set a.part.now 0 a.letter, c.make_number.auto.1.0, c.make_number-2.auto.1.0))
+    simp length-set (omega (arith, length-set a.part.now 0 a.letter, c.make_number.auto.part, c.make_number-2.auto.part))
 
 pub returns : goal.returns
 unfolding FieldsMade

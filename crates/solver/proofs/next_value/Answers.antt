@@ -8,20 +8,20 @@ use Rattle.solver.proofs.next_value.Goals as goal
 
 pub returns-then-count-eq0 : goal.returns-then-count-eq0
 returns-then-count-eq0 c =
-    let noted = c.flag-disturbed.ensures in
+    let noted = c.flag_disturbed.ensures in
     let round = c.place-count.ensures in
     let small : c.args.last + 1 < 65535 = omega (arith, c.requires) in
     record { goes_on = λ so_far some. absurd (some refl); stops = λ so_far none. solving-stops so_far small noted round c.if-count-eq0.true }
 
 pub settle-requires : goal.settle-requires
 settle-requires c =
-    let flagged = c.flag-disturbed.auto in
+    let flagged = c.flag_disturbed.auto in
     let placed = c.place-count.auto in
     (c.requires.0, c.requires.1, omega (arith, c), omega (arith, c), omega (arith, c, flagged), omega (arith, c, placed), omega (arith, c, placed))
 
 pub returns : goal.returns
 returns c =
-    let noted = c.flag-disturbed.ensures in
+    let noted = c.flag_disturbed.ensures in
     let round = c.place-count.ensures in
     let settled = c.settle.ensures in
     let small : c.args.last + 1 < 65535 = omega (arith, c.requires) in

@@ -18,17 +18,17 @@ place-count-requires c = (omega arith, omega (arith, c), omega (arith, c))
 
 pub returns-then-count-eq0 : goal.returns-then-count-eq0
 returns-then-count-eq0 c =
-    let so_far = c.loop.invariant.4 in
-    let noted = c.flag-ready.ensures in
+    let so_far = c.loop-s.invariant.4 in
+    let noted = c.flag_ready.ensures in
     let round = c.place-count.ensures in
     settling-stops c.requires.2 so_far noted round c.if-count-eq0.true
 
 pub loop-s-preserved : goal.loop-s-preserved
 loop-s-preserved c =
-    let so_far = c.loop.invariant.4 in
-    let noted = c.flag-ready.ensures in
+    let so_far = c.loop-s.invariant.4 in
+    let noted = c.flag_ready.ensures in
     let round = c.place-count.ensures in
-    (omega (arith, c.loop-test.true), omega (arith, c, c.flag-ready.auto), omega (arith, c), omega (arith, c), settling-next c.requires.2 so_far noted round)
+    (omega (arith, c.loop-s-test.true), omega (arith, c, c.flag_ready.auto), omega (arith, c), omega (arith, c), settling-next c.requires.2 so_far noted round)
 
 pub returns : goal.returns
 returns c = settling-done (le_antisymm c.loop-s.invariant.0 c.loop-s-test.false) c.loop-s.invariant.4

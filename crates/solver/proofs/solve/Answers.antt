@@ -14,7 +14,7 @@ first_value-requires c =
     (rows-within d, d.few-positions, d.owners-row, d.marks-row, omega (arith, d.few-positions), pre.1, pre.2)
 
 pub loop-last-init : goal.loop-last-init
-loop-last-init c = (omega arith, c.first_value.auto.1.1.1.1.1.1.1.0, refl, refl, begin-again c.first_value.ensures)
+loop-last-init c = (omega arith, c.first_value.auto.flags, refl, refl, begin-again c.first_value.ensures)
 
 pub slice_bounds-next_value-end : goal.slice_bounds-next_value-end
 slice_bounds-next_value-end c = sym c.loop-last.invariant.1

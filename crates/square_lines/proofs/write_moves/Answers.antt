@@ -15,41 +15,12 @@ use Rattle.square_lines.specs.Lines.{move_lines}
 use Rattle.square_lines.specs.LinesLaws.{behind, MovesWritten, moves-none, moves-all, rows_fit, moves-half, moves_more}
 use Rattle.square_lines.proofs.write_moves.Goals as goal
 
--- for the lines of a turn there is room
-fits : (c : tie.In-loop invariant-loop decreases-loop) →
-    let h = c.before in
-    let a = h.before.before.args in
-    h.loop.at + count_below (cell a.t2 h.loop.v) a.n * 12 + count_below (cell a.t3 h.loop.v) a.n * 12 ≤ length a.lines.now
-fits c =
-    let h = c.before in
-    let start = h.before.before in
-    rows_fit start.args.n start.args.t2 start.args.t3 start.args.lines.now h.loop.v h.loop.at h.loop.lines h.loop.invariant.2 c.loop-test.true start.requires.1
-
-abbrev head : tie.After-slice-known2 invariant-loop decreases-loop → tie.At-loop invariant-loop decreases-loop
-head c = c.before.before.before.before.before.before
-
--- the buffer between the two calls
-abbrev between : tie.After-slice-known2 invariant-loop decreases-loop → List ℕ
-between c = behind (head c).loop.at (head c).loop.lines c.before.before.write-targets.new.1.1.1.1.0
-
-half : (c : tie.After-slice-known2 invariant-loop decreases-loop) →
-    let h = head c in
-    let a = h.before.before.args in
-    Written (joined (move_lines a.n a.t2 a.t3) h.loop.v ++ target_lines 77 h.loop.v (cell a.t2 h.loop.v) a.n) (h.loop.at + c.before.before.write-targets.result) a.lines.now (between c)
-half c =
-    let h = head c in
-    let start = h.before.before in
-    moves-half start.args.n start.args.t2 start.args.t3 start.args.lines.now h.loop.v h.loop.at h.loop.lines h.loop.inv.2 c.before.before.before.before.before.loop-test.true start.pre.1
-    _ c.before.before.write-targets.result c.before.before.write-targets.ensures
-
-same : (c : tie.After-slice-known2 invariant-loop decreases-loop) → length (between c) ≡ length (head c).before.before.args.lines.now
-same c = written-length _ _ (head c).before.before.args.lines.now (between c) (half c) (omega (arith, fits c.before.before.before.before.before, c.before.before.write-targets.ensures.bytes))
-
 pub loop-v-init : goal.loop-v-init
 loop-v-init c = (omega arith, refl, moves-none _ _ _ _)
 
 pub slice_bounds-write_targets-count : goal.slice_bounds-write_targets-count
-slice_bounds-write_targets-count c = omega (arith, fits c)
+slice_bounds-write_targets-count c = let fits : let a = c.args in c.loop-v.at + count_below (cell a.t2 c.loop-v.v) a.n * 12 + count_below (cell a.t3 c.loop-v.v) a.n * 12 ≤ length a.lines.now = rows_fit c.args.n c.args.t2 c.args.t3 c.args.lines.now c.loop-v.v c.loop-v.at c.loop-v.lines c.loop-v.invariant.2 c.loop-v-test.true c.requires.1 in
+    omega (arith, fits)
 
 -- no goal slice_bounds_write_targets_start
 part-write-targets-start : tie.Need-slice-bounds-write-targets-start invariant-loop decreases-loop
@@ -60,13 +31,20 @@ part-write-targets-end : tie.Need-slice-bounds-write-targets-end invariant-loop 
 part-write-targets-end c = omega (arith, fits c.before)
 
 pub write_targets-at-requires : goal.write_targets-at-requires
-write_targets-at-requires c = let room = fits c in (omega arith, omega arith, simp (length-take, length-drop) (omega arith))
+write_targets-at-requires c = let fits : let a = c.args in c.loop-v.at + count_below (cell a.t2 c.loop-v.v) a.n * 12 + count_below (cell a.t3 c.loop-v.v) a.n * 12 ≤ length a.lines.now = rows_fit c.args.n c.args.t2 c.args.t3 c.args.lines.now c.loop-v.v c.loop-v.at c.loop-v.lines c.loop-v.invariant.2 c.loop-v-test.true c.requires.1 in
+    let room = fits in (omega arith, omega arith, simp (length-take, length-drop) (omega arith))
 
 pub overflow_add-at : goal.overflow_add-at
-overflow_add-at c = omega (arith, fits c)
+overflow_add-at c = let fits : let a = c.args in c.loop-v.at + count_below (cell a.t2 c.loop-v.v) a.n * 12 + count_below (cell a.t3 c.loop-v.v) a.n * 12 ≤ length a.lines.now = rows_fit c.args.n c.args.t2 c.args.t3 c.args.lines.now c.loop-v.v c.loop-v.at c.loop-v.lines c.loop-v.invariant.2 c.loop-v-test.true c.requires.1 in
+    omega (arith, fits)
 
 pub slice_bounds-write_targets-count-in-loop-v : goal.slice_bounds-write_targets-count-in-loop-v
-slice_bounds-write_targets-count-in-loop-v c = omega (arith, fits c, same c, c.write_targets-at.ensures.bytes)
+slice_bounds-write_targets-count-in-loop-v c = let fits : let a = c.args in c.loop-v.at + count_below (cell a.t2 c.loop-v.v) a.n * 12 + count_below (cell a.t3 c.loop-v.v) a.n * 12 ≤ length a.lines.now = rows_fit c.args.n c.args.t2 c.args.t3 c.args.lines.now c.loop-v.v c.loop-v.at c.loop-v.lines c.loop-v.invariant.2 c.loop-v-test.true c.requires.1 in
+    let between : List ℕ = behind c.loop-v.at c.loop-v.lines c.write_targets-at.new.1.1.1.1.0 in
+    let half : let a = c.args in Written (joined (move_lines a.n a.t2 a.t3) c.loop-v.v ++ target_lines 77 c.loop-v.v (cell a.t2 c.loop-v.v) a.n) (c.loop-v.at + c.write_targets-at.result) a.lines.now (between) = moves-half c.args.n c.args.t2 c.args.t3 c.args.lines.now c.loop-v.v c.loop-v.at c.loop-v.lines c.loop-v.inv.2 c.loop-v-test.true c.requires.1
+    _ c.write_targets-at.result c.write_targets-at.ensures in
+    let same : length (between) ≡ length c.args.lines.now = written-length _ _ c.args.lines.now (between) (half) (omega (arith, fits, c.write_targets-at.ensures.bytes)) in
+    omega (arith, fits, same, c.write_targets-at.ensures.bytes)
 
 -- no goal slice_bounds_write_targets_start_2
 part-write-targets-start-2 : tie.Need-slice-bounds-write-targets-start-2 invariant-loop decreases-loop
@@ -78,21 +56,29 @@ part-write-targets-end-2 c = omega (arith, fits c.before.before.before.before.be
 
 pub write_targets-at-requires-in-loop-v : goal.write_targets-at-requires-in-loop-v
 write_targets-at-requires-in-loop-v c =
-    let room = fits c in
-    let kept = same c in
+    let fits : let a = c.args in c.loop-v.at + count_below (cell a.t2 c.loop-v.v) a.n * 12 + count_below (cell a.t3 c.loop-v.v) a.n * 12 ≤ length a.lines.now = rows_fit c.args.n c.args.t2 c.args.t3 c.args.lines.now c.loop-v.v c.loop-v.at c.loop-v.lines c.loop-v.invariant.2 c.loop-v-test.true c.requires.1 in
+    let between : List ℕ = behind c.loop-v.at c.loop-v.lines c.write_targets-at.new.1.1.1.1.0 in
+    let half : let a = c.args in Written (joined (move_lines a.n a.t2 a.t3) c.loop-v.v ++ target_lines 77 c.loop-v.v (cell a.t2 c.loop-v.v) a.n) (c.loop-v.at + c.write_targets-at.result) a.lines.now (between) = moves-half c.args.n c.args.t2 c.args.t3 c.args.lines.now c.loop-v.v c.loop-v.at c.loop-v.lines c.loop-v.inv.2 c.loop-v-test.true c.requires.1
+    _ c.write_targets-at.result c.write_targets-at.ensures in
+    let same : length (between) ≡ length c.args.lines.now = written-length _ _ c.args.lines.now (between) (half) (omega (arith, fits, c.write_targets-at.ensures.bytes)) in
+    let room = fits in
+    let kept = same in
     let first = c.write_targets-at.ensures.bytes in
     (omega arith, omega arith, simp (length-take, length-drop) (omega arith))
 
 pub overflow_add-at-in-loop-v : goal.overflow_add-at-in-loop-v
-overflow_add-at-in-loop-v c = omega (arith, fits c, c.write_targets-at.ensures.bytes, c.write_targets-at-in-loop-v.ensures.bytes)
+overflow_add-at-in-loop-v c = let fits : let a = c.args in c.loop-v.at + count_below (cell a.t2 c.loop-v.v) a.n * 12 + count_below (cell a.t3 c.loop-v.v) a.n * 12 ≤ length a.lines.now = rows_fit c.args.n c.args.t2 c.args.t3 c.args.lines.now c.loop-v.v c.loop-v.at c.loop-v.lines c.loop-v.invariant.2 c.loop-v-test.true c.requires.1 in
+    omega (arith, fits, c.write_targets-at.ensures.bytes, c.write_targets-at-in-loop-v.ensures.bytes)
 
 pub loop-v-preserved : goal.loop-v-preserved
 loop-v-preserved c =
-    let h = head c in
-    let start = h.before.before in
-    let room = fits c in
-    let more = moves_more start.args.n start.args.t2 start.args.t3 start.args.lines.now h.loop.v h.loop.at h.loop.lines h.loop.inv.2 c.loop-v-test.true start.pre.1 (between c) _ _ _ c.write_targets-at.ensures.bytes (half c) c.write_targets-at-in-loop-v.ensures in
-    (omega arith, written-length _ _ start.args.lines.now _ more.lines (omega (arith, room, c.write_targets-at.ensures.bytes, c.write_targets-at-in-loop-v.ensures.bytes)), more)
+    let fits : let a = c.args in c.loop-v.at + count_below (cell a.t2 c.loop-v.v) a.n * 12 + count_below (cell a.t3 c.loop-v.v) a.n * 12 ≤ length a.lines.now = rows_fit c.args.n c.args.t2 c.args.t3 c.args.lines.now c.loop-v.v c.loop-v.at c.loop-v.lines c.loop-v.invariant.2 c.loop-v-test.true c.requires.1 in
+    let between : List ℕ = behind c.loop-v.at c.loop-v.lines c.write_targets-at.new.1.1.1.1.0 in
+    let half : let a = c.args in Written (joined (move_lines a.n a.t2 a.t3) c.loop-v.v ++ target_lines 77 c.loop-v.v (cell a.t2 c.loop-v.v) a.n) (c.loop-v.at + c.write_targets-at.result) a.lines.now (between) = moves-half c.args.n c.args.t2 c.args.t3 c.args.lines.now c.loop-v.v c.loop-v.at c.loop-v.lines c.loop-v.inv.2 c.loop-v-test.true c.requires.1
+    _ c.write_targets-at.result c.write_targets-at.ensures in
+    let room = fits in
+    let more = moves_more c.args.n c.args.t2 c.args.t3 c.args.lines.now c.loop-v.v c.loop-v.at c.loop-v.lines c.loop-v.inv.2 c.loop-v-test.true c.requires.1 (between) _ _ _ c.write_targets-at.ensures.bytes (half) c.write_targets-at-in-loop-v.ensures in
+    (omega arith, written-length _ _ c.args.lines.now _ more.lines (omega (arith, room, c.write_targets-at.ensures.bytes, c.write_targets-at-in-loop-v.ensures.bytes)), more)
 
 pub returns : goal.returns
 returns c =

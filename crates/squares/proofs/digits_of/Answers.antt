@@ -1,17 +1,10 @@
 -- `digits_of` meets its contract: the digits for each count of positions. The base is not 0, as there is a position.
 use native.Mathlib.Omega.{arith}
-use Prim.Native.Nat.{◌^◌, ◌<◌}
+use Prim.Native.Nat.{◌^◌}
 use mathlib.Core.Path.{◌≡◌, ap, ◌∙◌}
 use Rattle.numbering.specs.Numbering.{digits}
-use Rattle.numbering.specs.NumeralLaws.{digits-positive}
 use Rattle.squares.specs.SquaresLaws.{sets-bound, one-digit, two_digits, three-digits}
 use Rattle.squares.proofs.digits_of.Goals as goal
-
-base : (c : tie.After-digit-count) → c.digit-count.result ≡ digits (2 ^ c.before.before.args.n)
-base c = c.digit-count.ensures ∙ ap digits c.before.sets.ensures
-
-positive : (c : tie.After-digit-count) → 0 < c.digit-count.result
-positive c = rw (base c) (digits-positive c.before.before.args.n c.before.before.requires.0)
 
 pub digit_count-base-requires : goal.digit_count-base-requires
 digit_count-base-requires c = rw c.sets.ensures (sets-bound c.args.n c.requires.1)
@@ -41,10 +34,13 @@ rem-t10 : tie.Need-nonzero-rem-t10
 rem-t10 c = positive c.before
 
 pub returns-in-1 : goal.returns-in-1
-returns-in-1 c = rw (← base c, c.in-1.keys1) (one-digit _ _)
+returns-in-1 c = let base : c.digit_count-base.result ≡ digits (2 ^ c.args.n) = c.digit_count-base.ensures ∙ ap digits c.sets.ensures in
+    rw (← base, c.in-1.keys1) (one-digit _ _)
 
 pub returns-in-2 : goal.returns-in-2
-returns-in-2 c = rw (← base c, c.in-2.keys2) (two_digits _ _)
+returns-in-2 c = let base : c.digit_count-base.result ≡ digits (2 ^ c.args.n) = c.digit_count-base.ensures ∙ ap digits c.sets.ensures in
+    rw (← base, c.in-2.keys2) (two_digits _ _)
 
 pub returns-in_default : goal.returns-in_default
-returns-in_default c = let three : c.args.n ≡ 3 = omega (arith, c.in_default.rest.1, c.in_default.rest.0.1) in rw (← base c, three) (three-digits _ _)
+returns-in_default c = let base : c.digit_count-base.result ≡ digits (2 ^ c.args.n) = c.digit_count-base.ensures ∙ ap digits c.sets.ensures in
+    let three : c.args.n ≡ 3 = omega (arith, c.in_default.rest.1, c.in_default.rest.0.1) in rw (← base, three) (three-digits _ _)

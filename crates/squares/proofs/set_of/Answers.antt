@@ -7,24 +7,25 @@ use Rattle.numbering.specs.Numbering.{set_number}
 use Rattle.numbering.specs.SetLaws.{set-bound}
 use Rattle.squares.proofs.set_of.Goals as goal
 
-small : (c : tie.Start) → set_number (λ w. get_or c.args.t1 w false) 3 < 8
-small c = set-bound (λ w. get_or c.args.t1 w false) 3
-
 pub overflow_mul-result : goal.overflow_mul-result
 unfolding set_number
-overflow_mul-result c = omega (arith, small c)
+overflow_mul-result c = let small : set_number (λ w. get_or c.args.t1 w false) 3 < 8 = set-bound (λ w. get_or c.args.t1 w false) 3 in
+    omega (arith, small)
 
 pub overflow_add-result : goal.overflow_add-result
 unfolding set_number
-overflow_add-result c = omega (arith, small c)
+overflow_add-result c = let small : set_number (λ w. get_or c.args.t1 w false) 3 < 8 = set-bound (λ w. get_or c.args.t1 w false) 3 in
+    omega (arith, small)
 
 pub overflow_mul-result-2 : goal.overflow_mul-result-2
 unfolding set_number
-overflow_mul-result-2 c = omega (arith, small c)
+overflow_mul-result-2 c = let small : set_number (λ w. get_or c.args.t1 w false) 3 < 8 = set-bound (λ w. get_or c.args.t1 w false) 3 in
+    omega (arith, small)
 
 pub overflow_add-result-2 : goal.overflow_add-result-2
 unfolding set_number
-overflow_add-result-2 c = omega (arith, small c)
+overflow_add-result-2 c = let small : set_number (λ w. get_or c.args.t1 w false) 3 < 8 = set-bound (λ w. get_or c.args.t1 w false) 3 in
+    omega (arith, small)
 
 pub returns : goal.returns
 unfolding set_number

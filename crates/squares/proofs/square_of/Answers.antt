@@ -7,23 +7,20 @@ use lib.ListN.{get_or}
 use Rattle.squares.specs.SquaresLaws.{gathered_none, gathered-other, gathered-more}
 use Rattle.squares.proofs.square_of.Goals as goal
 
-from-inside : (c : tie.In-loop invariant-loop decreases-loop) → get_or c.before.before.args.froms.now c.before.loop.i 0 < 3
-from-inside c = c.before.before.requires.from-inside c.before.loop.i c.loop-test.true
-
-to_inside : (c : tie.In-loop invariant-loop decreases-loop) → get_or c.before.before.args.tos.now c.before.loop.i 0 < 3
-to_inside c = c.before.before.requires.to_inside c.before.loop.i c.loop-test.true
-
 pub loop-i-init : goal.loop-i-init
 loop-i-init c = (omega arith, gathered_none)
 
 pub overflow_cast-v : goal.overflow_cast-v
-overflow_cast-v c = omega (arith, from-inside c)
+overflow_cast-v c = let from-inside : get_or c.args.froms.now c.loop-i.i 0 < 3 = c.requires.from-inside c.loop-i.i c.loop-i-test.true in
+    omega (arith, from-inside)
 
 pub overflow_cast-w : goal.overflow_cast-w
-overflow_cast-w c = omega (arith, to_inside c)
+overflow_cast-w c = let to_inside : get_or c.args.tos.now c.loop-i.i 0 < 3 = c.requires.to_inside c.loop-i.i c.loop-i-test.true in
+    omega (arith, to_inside)
 
 pub offset_bounds-square-v : goal.offset_bounds-square-v
-offset_bounds-square-v c = omega (arith, from-inside c)
+offset_bounds-square-v c = let from-inside : get_or c.args.froms.now c.loop-i.i 0 < 3 = c.requires.from-inside c.loop-i.i c.loop-i-test.true in
+    omega (arith, from-inside)
 
 -- no goal bounds_1_square
 index-1-square : tie.Need-bounds-1-square invariant-loop decreases-loop
@@ -35,10 +32,12 @@ index-2-square c = omega (arith, to_inside c.before.before.before.before)
 
 pub loop-i-preserved : goal.loop-i-preserved
 loop-i-preserved c =
+    let from-inside : get_or c.args.froms.now c.loop-i.i 0 < 3 = c.requires.from-inside c.loop-i.i c.loop-i-test.true in
+    let to_inside : get_or c.args.tos.now c.loop-i.i 0 < 3 = c.requires.to_inside c.loop-i.i c.loop-i-test.true in
     let at = c.loop-i in
     let more : at.i + 1 ≤ c.args.m = omega arith in
     ⊎_elim
-    (λ w. (more, rw w.3 (gathered-more w.0.taken (from-inside c) (to_inside c) at.invariant.1)))
+    (λ w. (more, rw w.3 (gathered-more w.0.taken (from-inside) (to_inside) at.invariant.1)))
     (λ w. (more, rw w.1 (gathered-other w.0.left at.invariant.1)))
     c.if-costs-i.branch
 

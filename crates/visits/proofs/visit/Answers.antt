@@ -10,116 +10,117 @@ use Rattle.visits.specs.Standing.{Wide, Progress}
 use Rattle.visits.specs.VisitLaws.{as-long-same, as-long-wide, seen_at, to_inside, entries_from, entries-to, visit-none, visit-turn, visit-done, entry-inside, entry-needs, order-room, later-room}
 use Rattle.visits.proofs.visit.Goals as goal
 
--- where the rows came in: the setting that they came with, and the position whose entries are looked at
-abbrev position : tie.Start invariant-loop decreases-loop → ℕ
-position s = get_or s.args.order.now s.args.head 0
-
-position-inside : (s : tie.Start invariant-loop decreases-loop) → position s < s.requires.0.0
-position-inside s = to_inside s.requires.0.1.0 s.requires.0.1.1 s.requires.1
-
-head-inside : (s : tie.Start invariant-loop decreases-loop) → s.args.head < s.requires.0.0
-head-inside s = omega (arith, listed-most s.requires.0.1.1.standing.placed, s.requires.1)
-
-starts-at : (s : tie.Start invariant-loop decreases-loop) → get_or s.args.starts.now (position s) 0 ≡ start_of s.requires.0.1.0.tos s.requires.0.1.0.m (position s)
-starts-at s = entries_from s.requires.0.1.0 s.requires.0.1.1 s.requires.1
-
-ends_at : (s : tie.Start invariant-loop decreases-loop) → get_or s.args.starts.now (position s + 1) 0 ≡ start_of s.requires.0.1.0.tos s.requires.0.1.0.m (position s + 1)
-ends_at s = entries-to s.requires.0.1.0 s.requires.0.1.1 s.requires.1
-
-ends-most : (s : tie.Start invariant-loop decreases-loop) → get_or s.args.starts.now (position s + 1) 0 ≤ s.requires.0.1.0.m
-ends-most s = rw (ends_at s) (start-most s.requires.0.1.0.tos s.requires.0.1.0.m (position s + 1))
-
--- in the loop
-abbrev start : tie.At-loop invariant-loop decreases-loop → tie.Start invariant-loop decreases-loop
-start c = c.before.before.before.before.before.before.before.before.before.before.before.before
-
-abbrev so_far : (c : tie.At-loop invariant-loop decreases-loop) → Progress (start c).requires.0.1.0 (start c).args.k (start c).args.s (seen_at (start c).requires.0.1.0 (start c).args.order.now (start c).args.head (position (start c)) c.loop.j)
-    (start c).args.lists (start c).args.needs.now (start c).args.values.now (start c).args.steps.now (start c).args.order.now c.loop.grown c.loop.needs c.loop.values c.loop.steps c.loop.order c.loop.due c.loop.later
-so_far c = (c.loop.invariant.1 _ (start c).requires.0.1.0 (start c).requires.0.1.1 (start c).requires.1).2
-
-wide : (c : tie.At-loop invariant-loop decreases-loop) → Wide (start c).requires.0.0 c.loop.needs c.loop.values c.loop.steps c.loop.order c.loop.due c.loop.later
-wide c = as-long-wide (start c).requires.0.1.1.wide c.loop.invariant.0
-
 pub offset_bounds-order-head : goal.offset_bounds-order-head
-offset_bounds-order-head c = omega (arith, head-inside c, c.requires.0.1.0.few-positions)
+offset_bounds-order-head c = let head-inside : c.args.head < c.requires.0.0 = omega (arith, listed-most c.requires.0.1.1.standing.placed, c.requires.1) in
+    omega (arith, head-inside, c.requires.0.1.0.few-positions)
 
 pub bounds-order-head : goal.bounds-order-head
-bounds-order-head c = omega (arith, head-inside c, c.requires.0.1.1.wide.order_row)
+bounds-order-head c = let head-inside : c.args.head < c.requires.0.0 = omega (arith, listed-most c.requires.0.1.1.standing.placed, c.requires.1) in
+    omega (arith, head-inside, c.requires.0.1.1.wide.order_row)
 
 pub overflow_cast-to : goal.overflow_cast-to
-overflow_cast-to c = omega (arith, position-inside c, c.requires.0.1.0.few-positions)
+overflow_cast-to c = let position : ℕ = get_or c.args.order.now c.args.head 0 in
+    let position-inside : position < c.requires.0.0 = to_inside c.requires.0.1.0 c.requires.0.1.1 c.requires.1 in
+    omega (arith, position-inside, c.requires.0.1.0.few-positions)
 
 pub overflow_add-end : goal.overflow_add-end
-overflow_add-end c = omega (arith, position-inside c, c.requires.0.1.0.few-positions)
+overflow_add-end c = let position : ℕ = get_or c.args.order.now c.args.head 0 in
+    let position-inside : position < c.requires.0.0 = to_inside c.requires.0.1.0 c.requires.0.1.1 c.requires.1 in
+    omega (arith, position-inside, c.requires.0.1.0.few-positions)
 
 pub offset_bounds-starts-to : goal.offset_bounds-starts-to
-offset_bounds-starts-to c = omega (arith, position-inside c, c.requires.0.1.0.few-positions)
+offset_bounds-starts-to c = let position : ℕ = get_or c.args.order.now c.args.head 0 in
+    let position-inside : position < c.requires.0.0 = to_inside c.requires.0.1.0 c.requires.0.1.1 c.requires.1 in
+    omega (arith, position-inside, c.requires.0.1.0.few-positions)
 
 pub bounds-starts-to : goal.bounds-starts-to
-bounds-starts-to c = omega (arith, position-inside c, c.requires.0.1.0.starts-row)
+bounds-starts-to c = let position : ℕ = get_or c.args.order.now c.args.head 0 in
+    let position-inside : position < c.requires.0.0 = to_inside c.requires.0.1.0 c.requires.0.1.1 c.requires.1 in
+    omega (arith, position-inside, c.requires.0.1.0.starts-row)
 
 pub overflow_cast-end : goal.overflow_cast-end
-overflow_cast-end c = omega (arith, ends-most c, c.requires.0.1.0.few-moves)
+overflow_cast-end c = let position : ℕ = get_or c.args.order.now c.args.head 0 in
+    let ends_at : get_or c.args.starts.now (position + 1) 0 ≡ start_of c.requires.0.1.0.tos c.requires.0.1.0.m (position + 1) = entries-to c.requires.0.1.0 c.requires.0.1.1 c.requires.1 in
+    let ends-most : get_or c.args.starts.now (position + 1) 0 ≤ c.requires.0.1.0.m = rw (ends_at) (start-most c.requires.0.1.0.tos c.requires.0.1.0.m (position + 1)) in
+    omega (arith, ends-most, c.requires.0.1.0.few-moves)
 
 pub offset_bounds-starts-to-2 : goal.offset_bounds-starts-to-2
-offset_bounds-starts-to-2 c = omega (arith, position-inside c, c.requires.0.1.0.few-positions)
+offset_bounds-starts-to-2 c = let position : ℕ = get_or c.args.order.now c.args.head 0 in
+    let position-inside : position < c.requires.0.0 = to_inside c.requires.0.1.0 c.requires.0.1.1 c.requires.1 in
+    omega (arith, position-inside, c.requires.0.1.0.few-positions)
 
 pub bounds-starts-to-2 : goal.bounds-starts-to-2
-bounds-starts-to-2 c = omega (arith, position-inside c, c.requires.0.1.0.starts-row)
+bounds-starts-to-2 c = let position : ℕ = get_or c.args.order.now c.args.head 0 in
+    let position-inside : position < c.requires.0.0 = to_inside c.requires.0.1.0 c.requires.0.1.1 c.requires.1 in
+    omega (arith, position-inside, c.requires.0.1.0.starts-row)
 
 pub overflow_cast-j : goal.overflow_cast-j
-overflow_cast-j c = omega (arith, starts-at c, start-most c.requires.0.1.0.tos c.requires.0.1.0.m (position c), c.requires.0.1.0.few-moves)
+overflow_cast-j c = let position : ℕ = get_or c.args.order.now c.args.head 0 in
+    let starts-at : get_or c.args.starts.now (position) 0 ≡ start_of c.requires.0.1.0.tos c.requires.0.1.0.m (position) = entries_from c.requires.0.1.0 c.requires.0.1.1 c.requires.1 in
+    omega (arith, starts-at, start-most c.requires.0.1.0.tos c.requires.0.1.0.m (position), c.requires.0.1.0.few-moves)
 
 pub loop-j-init : goal.loop-j-init
 loop-j-init c =
+    let position : ℕ = get_or c.args.order.now c.args.head 0 in
     (
       as-long-same,
       λ n g ready more.
           let at = entries_from g ready more in
-          (omega arith, rw at (start-rises g.tos g.m (position c) (position c + 1) (omega arith)), visit-none g ready more at),
+          (omega arith, rw at (start-rises g.tos g.m (position) (position + 1) (omega arith)), visit-none g ready more at),
     )
 
 pub offset_bounds-entries-j : goal.offset_bounds-entries-j
-offset_bounds-entries-j c = let s = start c in omega (arith, ends-most s, c.loop-j-test.true, s.pre.0.1.0.few-moves)
+offset_bounds-entries-j c = let position : ℕ = get_or c.args.order.now c.args.head 0 in
+    let ends_at : get_or c.args.starts.now (position + 1) 0 ≡ start_of c.requires.0.1.0.tos c.requires.0.1.0.m (position + 1) = entries-to c.requires.0.1.0 c.requires.0.1.1 c.requires.1 in
+    let ends-most : get_or c.args.starts.now (position + 1) 0 ≤ c.requires.0.1.0.m = rw (ends_at) (start-most c.requires.0.1.0.tos c.requires.0.1.0.m (position + 1)) in
+    omega (arith, ends-most, c.loop-j-test.true, c.requires.0.1.0.few-moves)
 
 pub bounds-entries-j : goal.bounds-entries-j
-bounds-entries-j c = let s = start c in omega (arith, ends-most s, c.loop-j-test.true, s.pre.0.1.0.entries-row)
+bounds-entries-j c = let position : ℕ = get_or c.args.order.now c.args.head 0 in
+    let ends_at : get_or c.args.starts.now (position + 1) 0 ≡ start_of c.requires.0.1.0.tos c.requires.0.1.0.m (position + 1) = entries-to c.requires.0.1.0 c.requires.0.1.1 c.requires.1 in
+    let ends-most : get_or c.args.starts.now (position + 1) 0 ≤ c.requires.0.1.0.m = rw (ends_at) (start-most c.requires.0.1.0.tos c.requires.0.1.0.m (position + 1)) in
+    omega (arith, ends-most, c.loop-j-test.true, c.requires.0.1.0.entries-row)
 
 pub overflow_cast-entries : goal.overflow_cast-entries
 overflow_cast-entries c =
-    let s = start c in
-    let high : c.loop-j.j < start_of s.pre.0.1.0.tos s.pre.0.1.0.m (position s + 1) = omega (arith, ends_at s, c.loop-j-test.true) in
-    omega (arith, entry-inside s.pre.0.1.0 s.pre.0.1.1 s.pre.1 (so_far c) (c.loop-j.invariant.1 _ s.pre.0.1.0 s.pre.0.1.1 s.pre.1).0 high, s.pre.0.1.0.few-positions)
+    let position : ℕ = get_or c.args.order.now c.args.head 0 in
+    let ends_at : get_or c.args.starts.now (position + 1) 0 ≡ start_of c.requires.0.1.0.tos c.requires.0.1.0.m (position + 1) = entries-to c.requires.0.1.0 c.requires.0.1.1 c.requires.1 in
+    let so_far : Progress c.requires.0.1.0 c.args.k c.args.s (seen_at c.requires.0.1.0 c.args.order.now c.args.head (position) c.loop-j.j) c.args.lists c.args.needs.now c.args.values.now c.args.steps.now c.args.order.now c.loop-j.grown c.loop-j.needs c.loop-j.values c.loop-j.steps c.loop-j.order c.loop-j.due c.loop-j.later = (c.loop-j.invariant.1 _ c.requires.0.1.0 c.requires.0.1.1 c.requires.1).2 in
+    let high : c.loop-j.j < start_of c.requires.0.1.0.tos c.requires.0.1.0.m (position + 1) = omega (arith, ends_at, c.loop-j-test.true) in
+    omega (arith, entry-inside c.requires.0.1.0 c.requires.0.1.1 c.requires.1 (so_far) (c.loop-j.invariant.1 _ c.requires.0.1.0 c.requires.0.1.1 c.requires.1).0 high, c.requires.0.1.0.few-positions)
 
 pub look-grown-requires : goal.look-grown-requires
 look-grown-requires c =
-    let s = start c in
-    let g = s.pre.0.1.0 in
-    let ready = s.pre.0.1.1 in
-    let low = (c.loop-j.invariant.1 _ g ready s.pre.1).0 in
-    let high : c.loop-j.j < start_of g.tos g.m (position s + 1) = omega (arith, ends_at s, c.loop-j-test.true) in
-    let e = entry-inside g ready s.pre.1 (so_far c) low high in
-    let w = wide c in
-    let few = g.few-positions in (
-      (omega arith, omega (arith, w.needs-row), entry-needs g ready s.pre.1 (so_far c) low high, ready.small, omega (arith, w.values-row), omega (arith, w.steps-row), omega (arith, w.due-row)),
-      (omega (arith, listed-most (so_far c).state.placed), omega (arith, listed-most (so_far c).state.waiting), order-room g ready s.pre.1 (so_far c) low high w, later-room g ready s.pre.1 (so_far c) low high w),
-    )
+    let position : ℕ = get_or c.args.order.now c.args.head 0 in
+    let ends_at : get_or c.args.starts.now (position + 1) 0 ≡ start_of c.requires.0.1.0.tos c.requires.0.1.0.m (position + 1) = entries-to c.requires.0.1.0 c.requires.0.1.1 c.requires.1 in
+    let so_far : Progress c.requires.0.1.0 c.args.k c.args.s (seen_at c.requires.0.1.0 c.args.order.now c.args.head (position) c.loop-j.j) c.args.lists c.args.needs.now c.args.values.now c.args.steps.now c.args.order.now c.loop-j.grown c.loop-j.needs c.loop-j.values c.loop-j.steps c.loop-j.order c.loop-j.due c.loop-j.later = (c.loop-j.invariant.1 _ c.requires.0.1.0 c.requires.0.1.1 c.requires.1).2 in
+    let wide : Wide c.requires.0.0 c.loop-j.needs c.loop-j.values c.loop-j.steps c.loop-j.order c.loop-j.due c.loop-j.later = as-long-wide c.requires.0.1.1.wide c.loop-j.invariant.0 in
+    let g = c.requires.0.1.0 in
+    let ready = c.requires.0.1.1 in
+    let low = (c.loop-j.invariant.1 _ g ready c.requires.1).0 in
+    let high : c.loop-j.j < start_of g.tos g.m (position + 1) = omega (arith, ends_at, c.loop-j-test.true) in
+    let e = entry-inside g ready c.requires.1 (so_far) low high in
+    let w = wide in
+    let few = g.few-positions in record { e_bound = (omega arith, omega (arith, w.needs-row), entry-needs g ready c.requires.1 (so_far) low high, ready.small, omega (arith, w.values-row), omega (arith, w.steps-row), omega (arith, w.due-row)); tail_bound = (omega (arith, listed-most (so_far).state.placed), omega (arith, listed-most (so_far).state.waiting), order-room g ready c.requires.1 (so_far) low high w, later-room g ready c.requires.1 (so_far) low high w) }
 
 pub overflow_add-j : goal.overflow_add-j
-overflow_add-j c = let s = start c in omega (arith, ends-most s, c.loop-j-test.true, s.pre.0.1.0.few-moves)
+overflow_add-j c = let position : ℕ = get_or c.args.order.now c.args.head 0 in
+    let ends_at : get_or c.args.starts.now (position + 1) 0 ≡ start_of c.requires.0.1.0.tos c.requires.0.1.0.m (position + 1) = entries-to c.requires.0.1.0 c.requires.0.1.1 c.requires.1 in
+    let ends-most : get_or c.args.starts.now (position + 1) 0 ≤ c.requires.0.1.0.m = rw (ends_at) (start-most c.requires.0.1.0.tos c.requires.0.1.0.m (position + 1)) in
+    omega (arith, ends-most, c.loop-j-test.true, c.requires.0.1.0.few-moves)
 
 pub loop-j-smaller : goal.loop-j-smaller
 loop-j-smaller c = omega (arith, c.loop-j-test.true)
 
 pub loop-j-preserved : goal.loop-j-preserved
 loop-j-preserved c =
-    let s = start c in
+    let position : ℕ = get_or c.args.order.now c.args.head 0 in
     let look = c.look-grown in
     let long = c.loop-j.invariant.0 in (
       record { needs-row = omega (arith, look.auto, long); values-row = omega (arith, look.auto, long); steps-row = omega (arith, look.auto, long); order_row = omega (arith, look.auto, long); due-row = omega (arith, look.auto, long); later-row = omega (arith, look.auto, long) },
       λ n g ready more.
           let inv = c.loop-j.invariant.1 _ g ready more in
-          let high : c.loop-j.j < start_of g.tos g.m (position s + 1) = omega (arith, entries-to g ready more, c.loop-j-test.true) in
+          let high : c.loop-j.j < start_of g.tos g.m (position + 1) = omega (arith, entries-to g ready more, c.loop-j-test.true) in
           (omega (arith, inv.0), omega arith, visit-turn g ready more inv.2 inv.0 high (as-long-wide ready.wide long) look.ensures),
     )
 

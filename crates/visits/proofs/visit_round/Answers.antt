@@ -1,20 +1,11 @@
 -- `visit_round` meets its contract: the invariant says that the positions of the order before `at` were visited.
-use Prim.Native.Nat.{ℕ, ◌-◌}
+use Prim.Native.Nat.{◌-◌}
 use native.Mathlib.Omega.{arith}
 use mathlib.Core.Path.{◌≡◌}
 use Rattle.visits.specs.Lists.{listed-most}
-use Rattle.visits.specs.Standing.{Setting, Ready}
+use Rattle.visits.specs.Standing.{Ready}
 use Rattle.visits.specs.VisitLaws.{as-long-same, as-long-then, as-long-wide, ready-next, round-none, progress-then}
 use Rattle.visits.proofs.visit_round.Goals as goal
-
-abbrev start : tie.At-loop invariant-loop decreases-loop → tie.Start invariant-loop decreases-loop
-start c = c.before.before.before.before.before.before.before.before.before
-
--- what the next visit goes on from
-ready_at : (c : tie.At-loop invariant-loop decreases-loop) (n : ℕ) (g : Setting n (start c).args.starts.now (start c).args.entries.now)
-    → Ready g (start c).args.k (start c).args.head (start c).args.lists (start c).args.needs.now (start c).args.values.now (start c).args.steps.now (start c).args.order.now (start c).args.due.now (start c).args.later.now
-    → Ready g (start c).args.k c.loop.at c.loop.grown c.loop.needs c.loop.values c.loop.steps c.loop.order c.loop.due c.loop.later
-ready_at c n g ready = let inv = c.loop.invariant.1 n g ready in ready-next g ready inv.0 inv.1 inv.2 (as-long-wide ready.wide c.loop.invariant.0)
 
 pub loop-at-init : goal.loop-at-init
 loop-at-init c = (
@@ -24,24 +15,25 @@ loop-at-init c = (
 
 pub visit-grown-requires : goal.visit-grown-requires
 visit-grown-requires c =
-    let s = start c in
-    let inv = c.loop-at.invariant.1 _ s.pre.1.0 s.pre.1.1 in
-    ((_, (s.pre.1.0, ready_at c _ s.pre.1.0 s.pre.1.1)), omega (arith, inv.2.grown.longer, c.loop-at-test.true))
+    let ready_at : Ready g c.args.k c.args.head c.args.lists c.args.needs.now c.args.values.now c.args.steps.now c.args.order.now c.args.due.now c.args.later.now → Ready g c.args.k c.loop-at.at c.loop-at.grown c.loop-at.needs c.loop-at.values c.loop-at.steps c.loop-at.order c.loop-at.due c.loop-at.later = λ n g ready. let inv = c.loop-at.invariant.1 n g ready in ready-next g ready inv.0 inv.1 inv.2 (as-long-wide ready.wide c.loop-at.invariant.0) in
+    let inv = c.loop-at.invariant.1 _ c.requires.1.0 c.requires.1.1 in
+    ((_, (c.requires.1.0, ready_at _ c.requires.1.0 c.requires.1.1)), omega (arith, inv.2.grown.longer, c.loop-at-test.true))
 
 pub overflow_add-at : goal.overflow_add-at
-overflow_add-at c = let s = start c in omega (arith, c.loop-at-test.true, s.pre.1.0.few-positions, listed-most s.pre.1.1.standing.placed)
+overflow_add-at c = omega (arith, c.loop-at-test.true, c.requires.1.0.few-positions, listed-most c.requires.1.1.standing.placed)
 
 pub loop-at-smaller : goal.loop-at-smaller
 loop-at-smaller c = omega (arith, c.loop-at-test.true)
 
 pub loop-at-preserved : goal.loop-at-preserved
 loop-at-preserved c =
+    let ready_at : Ready g c.args.k c.args.head c.args.lists c.args.needs.now c.args.values.now c.args.steps.now c.args.order.now c.args.due.now c.args.later.now → Ready g c.args.k c.loop-at.at c.loop-at.grown c.loop-at.needs c.loop-at.values c.loop-at.steps c.loop-at.order c.loop-at.due c.loop-at.later = λ n g ready. let inv = c.loop-at.invariant.1 n g ready in ready-next g ready inv.0 inv.1 inv.2 (as-long-wide ready.wide c.loop-at.invariant.0) in
     let visit = c.visit-grown in
     let turn = c.loop-at-test.true in (
       as-long-then c.loop-at.invariant.0 visit.ensures.long,
       λ n g ready.
           let inv = c.loop-at.invariant.1 n g ready in
-          (omega (arith, inv.0), omega (arith, turn), progress-then g ready inv.2 (visit.ensures.goes_on n g (ready_at c n g ready) (omega (arith, inv.2.grown.longer, turn)))),
+          (omega (arith, inv.0), omega (arith, turn), progress-then g ready inv.2 (visit.ensures.goes_on n g (ready_at n g ready) (omega (arith, inv.2.grown.longer, turn)))),
     )
 
 pub shape_of-needs : goal.shape_of-needs
@@ -68,6 +60,6 @@ returns c =
       long = c.loop-at.invariant.0;
       goes_on = λ n g ready.
           let inv = c.loop-at.invariant.1 n g ready in
-          let all : c.loop-at.at ≡ (start c).args.lists.tail = omega (arith, inv.1, c.loop-at-test.false) in
+          let all : c.loop-at.at ≡ c.args.lists.tail = omega (arith, inv.1, c.loop-at-test.false) in
           rw all c inv.2;
     }

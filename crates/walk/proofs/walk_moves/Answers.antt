@@ -9,59 +9,64 @@ use Rattle.walk.specs.WalkLaws.{stopped, went_on, move-reads, rank_of, so-far-no
 use Rattle.std.proofs.lemmas.Bool.{not_from_true}
 use Rattle.walk.proofs.walk_moves.Goals as goal
 
--- the place where a line's numbers and its cost have been found: they are two positions and a cost
-abbrev Line : Type 0
-Line = lts.After-cost-at (number-at-reads.Asked, number-at-reads.Learnt, cost-at-reads.Asked, cost-at-reads.Learnt, line-is-reads.Asked, line-is-reads.Learnt) reads.Pre reads.Post invariant-loop decreases-loop
-
-inside : (c : Line) →
-    let n = c.before.before.before.before.before.before.before.before.before.before.before.before.before.before.args.n in
-    (c.before.before.number_at.result < n) × (c.before.number-at2.result < n) × (c.cost-at.result ≤ 1) × (n ≤ 512)
-inside c =
-    let tables = c.before.before.before.before.before.before.before.before.before.before.before.before.before.before.requires.0 in
-    (c.before.before.number_at.ensures _ tables.number, c.before.number-at2.ensures _ tables.number, c.cost-at.ensures, tables.few)
-
 pub loop-i-init : goal.loop-i-init
 loop-i-init c =
     (omega arith, so-far-none _ _, kinds-none _ _ _ c.requires.row_is.0, kept_same _ _, record { cost = filled_none _ _; from = filled_none _ _; to = filled_none _ _ })
 
 pub overflow_mul-kind : goal.overflow_mul-kind
 overflow_mul-kind c =
-    let l = inside c in
+    let inside : let n = c.args.n in (c.number_at-from.result < n) × (c.number_at-to.result < n) × (c.cost_at-cost.result ≤ 1) × (n ≤ 512) = let tables = c.requires.tables in
+    (c.number_at-from.ensures _ tables.number, c.number_at-to.ensures _ tables.number, c.cost_at-cost.ensures, tables.few) in
+    let l = inside in
     omega arith
 
 pub overflow_add-kind : goal.overflow_add-kind
 overflow_add-kind c =
-    let l = inside c in
+    let inside : let n = c.args.n in (c.number_at-from.result < n) × (c.number_at-to.result < n) × (c.cost_at-cost.result ≤ 1) × (n ≤ 512) = let tables = c.requires.tables in
+    (c.number_at-from.ensures _ tables.number, c.number_at-to.ensures _ tables.number, c.cost_at-cost.ensures, tables.few) in
+    let l = inside in
     omega arith
 
 pub offset_bounds-openings-kind : goal.offset_bounds-openings-kind
 offset_bounds-openings-kind c =
-    let l = inside c in
+    let inside : let n = c.args.n in (c.number_at-from.result < n) × (c.number_at-to.result < n) × (c.cost_at-cost.result ≤ 1) × (n ≤ 512) = let tables = c.requires.tables in
+    (c.number_at-from.ensures _ tables.number, c.number_at-to.ensures _ tables.number, c.cost_at-cost.ensures, tables.few) in
+    let l = inside in
     omega arith
 
 pub bounds-openings-kind : goal.bounds-openings-kind
 bounds-openings-kind c =
-    let l = inside c in
+    let inside : let n = c.args.n in (c.number_at-from.result < n) × (c.number_at-to.result < n) × (c.cost_at-cost.result ≤ 1) × (n ≤ 512) = let tables = c.requires.tables in
+    (c.number_at-from.ensures _ tables.number, c.number_at-to.ensures _ tables.number, c.cost_at-cost.ensures, tables.few) in
+    let l = inside in
     omega arith
 
 pub offset_bounds-middles-from : goal.offset_bounds-middles-from
 offset_bounds-middles-from c =
-    let l = inside c in
+    let inside : let n = c.args.n in (c.number_at-from.result < n) × (c.number_at-to.result < n) × (c.cost_at-cost.result ≤ 1) × (n ≤ 512) = let tables = c.requires.tables in
+    (c.number_at-from.ensures _ tables.number, c.number_at-to.ensures _ tables.number, c.cost_at-cost.ensures, tables.few) in
+    let l = inside in
     omega arith
 
 pub bounds-middles-from : goal.bounds-middles-from
 bounds-middles-from c =
-    let l = inside c in
+    let inside : let n = c.args.n in (c.number_at-from.result < n) × (c.number_at-to.result < n) × (c.cost_at-cost.result ≤ 1) × (n ≤ 512) = let tables = c.requires.tables in
+    (c.number_at-from.ensures _ tables.number, c.number_at-to.ensures _ tables.number, c.cost_at-cost.ensures, tables.few) in
+    let l = inside in
     omega arith
 
 pub offset_bounds-closings-to : goal.offset_bounds-closings-to
 offset_bounds-closings-to c =
-    let l = inside c in
+    let inside : let n = c.args.n in (c.number_at-from.result < n) × (c.number_at-to.result < n) × (c.cost_at-cost.result ≤ 1) × (n ≤ 512) = let tables = c.requires.tables in
+    (c.number_at-from.ensures _ tables.number, c.number_at-to.ensures _ tables.number, c.cost_at-cost.ensures, tables.few) in
+    let l = inside in
     omega arith
 
 pub bounds-closings-to : goal.bounds-closings-to
 bounds-closings-to c =
-    let l = inside c in
+    let inside : let n = c.args.n in (c.number_at-from.result < n) × (c.number_at-to.result < n) × (c.cost_at-cost.result ≤ 1) × (n ≤ 512) = let tables = c.requires.tables in
+    (c.number_at-from.ensures _ tables.number, c.number_at-to.ensures _ tables.number, c.cost_at-cost.ensures, tables.few) in
+    let l = inside in
     omega arith
 
 pub returns-then-not-line_is : goal.returns-then-not-line_is
@@ -77,12 +82,16 @@ returns-then-not-line_is c =
 
 pub overflow_mul-rank : goal.overflow_mul-rank
 overflow_mul-rank c =
-    let l = inside c in
+    let inside : let n = c.args.n in (c.number_at-from.result < n) × (c.number_at-to.result < n) × (c.cost_at-cost.result ≤ 1) × (n ≤ 512) = let tables = c.requires.tables in
+    (c.number_at-from.ensures _ tables.number, c.number_at-to.ensures _ tables.number, c.cost_at-cost.ensures, tables.few) in
+    let l = inside in
     omega arith
 
 pub overflow_add-rank : goal.overflow_add-rank
 overflow_add-rank c =
-    let l = inside c in
+    let inside : let n = c.args.n in (c.number_at-from.result < n) × (c.number_at-to.result < n) × (c.cost_at-cost.result ≤ 1) × (n ≤ 512) = let tables = c.requires.tables in
+    (c.number_at-from.ensures _ tables.number, c.number_at-to.ensures _ tables.number, c.cost_at-cost.ensures, tables.few) in
+    let l = inside in
     omega arith
 
 pub returns-then-rank-lowest : goal.returns-then-rank-lowest
@@ -98,31 +107,41 @@ returns-then-rank-lowest c =
 
 pub overflow_cast-froms : goal.overflow_cast-froms
 overflow_cast-froms c =
-    let l = inside c in
+    let inside : let n = c.args.n in (c.number_at-from.result < n) × (c.number_at-to.result < n) × (c.cost_at-cost.result ≤ 1) × (n ≤ 512) = let tables = c.requires.tables in
+    (c.number_at-from.ensures _ tables.number, c.number_at-to.ensures _ tables.number, c.cost_at-cost.ensures, tables.few) in
+    let l = inside in
     omega arith
 
 pub overflow_cast-tos : goal.overflow_cast-tos
 overflow_cast-tos c =
-    let l = inside c in
+    let inside : let n = c.args.n in (c.number_at-from.result < n) × (c.number_at-to.result < n) × (c.cost_at-cost.result ≤ 1) × (n ≤ 512) = let tables = c.requires.tables in
+    (c.number_at-from.ensures _ tables.number, c.number_at-to.ensures _ tables.number, c.cost_at-cost.ensures, tables.few) in
+    let l = inside in
     omega arith
 
 pub bounds-kinds-kind : goal.bounds-kinds-kind
 bounds-kinds-kind c =
-    let l = inside c in
+    let inside : let n = c.args.n in (c.number_at-from.result < n) × (c.number_at-to.result < n) × (c.cost_at-cost.result ≤ 1) × (n ≤ 512) = let tables = c.requires.tables in
+    (c.number_at-from.ensures _ tables.number, c.number_at-to.ensures _ tables.number, c.cost_at-cost.ensures, tables.few) in
+    let l = inside in
     omega arith
 
 pub overflow_add-lowest : goal.overflow_add-lowest
 overflow_add-lowest c =
-    let l = inside c in
+    let inside : let n = c.args.n in (c.number_at-from.result < n) × (c.number_at-to.result < n) × (c.cost_at-cost.result ≤ 1) × (n ≤ 512) = let tables = c.requires.tables in
+    (c.number_at-from.ensures _ tables.number, c.number_at-to.ensures _ tables.number, c.cost_at-cost.ensures, tables.few) in
+    let l = inside in
     omega arith
 
 pub loop-i-preserved : goal.loop-i-preserved
 unfolding rank_of
 loop-i-preserved c =
+    let inside : let n = c.args.n in (c.number_at-from.result < n) × (c.number_at-to.result < n) × (c.cost_at-cost.result ≤ 1) × (n ≤ 512) = let tables = c.requires.tables in
+    (c.number_at-from.ensures _ tables.number, c.number_at-to.ensures _ tables.number, c.cost_at-cost.ensures, tables.few) in
     let a = c.args in
     let inv = c.loop-i.invariant in
     let i = c.loop-i.i in
-    let l = inside c in
+    let l = inside in
     let text = a.text.now in
     let reads = move-reads text a.n (a.n + 1 + i) _ _ _ _ _ _ _ c.requires.tables l.0 l.1 l.2 (c.line_is.ensures (went_on _ (not_from_true _ c.if-not-line_is.false))) in (
       omega arith,

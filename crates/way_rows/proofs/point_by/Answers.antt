@@ -6,21 +6,17 @@ use Prim.Native.Nat.{ℕ}
 use lib.ListN.{get_or}
 use Rattle.way_rows.proofs.point_by.Goals as goal
 
--- where the move begins and ends
-abbrev from : tie.Start → ℕ
-from s = get_or s.args.froms.now s.args.i 0
-
-abbrev to : tie.Start → ℕ
-to s = get_or s.args.tos.now s.args.i 0
-
 pub overflow_cast-left : goal.overflow_cast-left
-overflow_cast-left c = omega (arith, c.shared_slice_known-3-1.given (from c))
+overflow_cast-left c = let from : ℕ = get_or c.args.froms.now c.args.i 0 in
+    omega (arith, c.shared_slice_known-3-1.given (from))
 
 pub overflow_cast-left-2 : goal.overflow_cast-left-2
-overflow_cast-left-2 c = omega (arith, c.shared_slice_known-4-1.given (to c))
+overflow_cast-left-2 c = let to : ℕ = get_or c.args.tos.now c.args.i 0 in
+    omega (arith, c.shared_slice_known-4-1.given (to))
 
 pub overflow_add-left : goal.overflow_add-left
-overflow_add-left c = omega (arith, c.shared_slice_known-4-1.given (to c))
+overflow_add-left c = let to : ℕ = get_or c.args.tos.now c.args.i 0 in
+    omega (arith, c.shared_slice_known-4-1.given (to))
 
 pub returns-then-left-from : goal.returns-then-left-from
 unfolding shortens

@@ -6,29 +6,25 @@ use Prim.Native.Nat.{ℕ}
 use lib.ListN.{get_or}
 use Rattle.way_rows.proofs.straight_to.Goals as goal
 
--- where the move begins and ends
-abbrev from : tie.Start → ℕ
-from s = get_or s.args.froms.now s.args.i 0
-
-abbrev to : tie.Start → ℕ
-to s = get_or s.args.tos.now s.args.i 0
-
 pub returns-then-here : goal.returns-then-here
 unfolding straight_to is_tight
 returns-then-here c = search cases
 
 pub overflow_cast-here-2 : goal.overflow_cast-here-2
-overflow_cast-here-2 c = omega (arith, c.shared_slice_known-3-1.given (from c))
+overflow_cast-here-2 c = let from : ℕ = get_or c.args.froms.now c.args.i 0 in
+    omega (arith, c.shared_slice_known-3-1.given (from))
 
 pub overflow_cast-worths : goal.overflow_cast-worths
-overflow_cast-worths c = omega (arith, c.shared_slice_known-4-1.given (to c))
+overflow_cast-worths c = let to : ℕ = get_or c.args.tos.now c.args.i 0 in
+    omega (arith, c.shared_slice_known-4-1.given (to))
 
 pub overflow_cast-costs : goal.overflow_cast-costs
 overflow_cast-costs c = omega (arith, c.shared_slice_known-5-1.given c.args.i)
 
 pub overflow_add-worths : goal.overflow_add-worths
 overflow_add-worths c =
-    omega (arith, c.shared_slice_known-4-1.given (to c), c.shared_slice_known-5-1.given c.args.i)
+    let to : ℕ = get_or c.args.tos.now c.args.i 0 in
+    omega (arith, c.shared_slice_known-4-1.given (to), c.shared_slice_known-5-1.given c.args.i)
 
 pub returns-then-here-worths : goal.returns-then-here-worths
 unfolding straight_to is_tight

@@ -8,26 +8,22 @@ use Rattle.chart.specs.declared.Examination.TheVariants.{Accepted}
 use Rattle.weighing.specs.WeighingLaws.{weighed-refused, weighed-short, weighed-taken, weighed-unfair}
 use Rattle.weighing.proofs.weigh_chart.Goals as goal
 
--- where the chart is known to be accepted, it was loaded before
-abbrev loading : tie.After-chart → tie.After-load
-loading c = c.before.before.before.before.before.before.before
-
-accepted : (c : tie.After-chart) → examined (loading c).before.before.before.before.before.before.before.before.before.args.text.now ≡ Accepted c.chart.given.0.0
-accepted c = sym (loading c).load.ensures.answer ∙ c.chart.given.1
-
 pub returns-then-choices-n : goal.returns-then-choices-n
-returns-then-choices-n c = weighed-short (accepted c) (search cases)
+returns-then-choices-n c = let accepted : examined c.args.text.now ≡ Accepted c.chart-1.given.0.0 = sym c.load.ensures.answer ∙ c.chart-1.given.1 in
+    weighed-short (accepted) (search cases)
 
 pub returns-then-worths-n : goal.returns-then-worths-n
-returns-then-worths-n c = weighed-short (accepted c) (search cases)
+returns-then-worths-n c = let accepted : examined c.args.text.now ≡ Accepted c.chart-1.given.0.0 = sym c.load.ensures.answer ∙ c.chart-1.given.1 in
+    weighed-short (accepted) (search cases)
 
 pub weigh_rows-requires : goal.weigh_rows-requires
 weigh_rows-requires c =
-    ((_, ((loading c).load.ensures.taken _ c.chart-1.given.1).rows), c.if-choices-n.false, c.if-worths-n.false)
+    ((_, (c.load.ensures.taken _ c.chart-1.given.1).rows), c.if-choices-n.false, c.if-worths-n.false)
 
 pub returns-then-weigh_rows : goal.returns-then-weigh_rows
 returns-then-weigh_rows c =
-    weighed-taken (accepted c) (simp (le-leb _ _ c.if-choices-n.false, le-leb _ _ c.if-worths-n.false)) ((loading c).load.ensures.taken _ c.chart-1.given.1).rows
+    let accepted : examined c.args.text.now ≡ Accepted c.chart-1.given.0.0 = sym c.load.ensures.answer ∙ c.chart-1.given.1 in
+    weighed-taken (accepted) (simp (le-leb _ _ c.if-choices-n.false, le-leb _ _ c.if-worths-n.false)) (c.load.ensures.taken _ c.chart-1.given.1).rows
     c.weigh_rows.ensures c.if-weigh_rows.true
 
 pub returns-in-Refused : goal.returns-in-Refused
@@ -35,5 +31,6 @@ returns-in-Refused c = weighed-refused (sym c.load.ensures.answer ∙ c.r-1.give
 
 pub returns-else-weigh_rows : goal.returns-else-weigh_rows
 returns-else-weigh_rows c =
-    weighed-unfair (accepted c) (simp (le-leb _ _ c.if-choices-n.false, le-leb _ _ c.if-worths-n.false)) ((loading c).load.ensures.taken _ c.chart-1.given.1).rows
+    let accepted : examined c.args.text.now ≡ Accepted c.chart-1.given.0.0 = sym c.load.ensures.answer ∙ c.chart-1.given.1 in
+    weighed-unfair (accepted) (simp (le-leb _ _ c.if-choices-n.false, le-leb _ _ c.if-worths-n.false)) (c.load.ensures.taken _ c.chart-1.given.1).rows
     c.weigh_rows.ensures c.if-weigh_rows.false

@@ -6,7 +6,7 @@ use lib.ListN.{length}
 use Rattle.jobs_test.proofs.charts.fill.Goals as goal
 
 pub loop-i-preserved : goal.loop-i-preserved
-loop-i-preserved c = (omega arith, c.fill_line.auto.0 ∙ c.loop-i.invariant.1)
+loop-i-preserved c = (omega arith, c.fill_line.auto.text ∙ c.loop-i.invariant.1)
 
 pub shape_of-text : goal.shape_of-text
-shape_of-text c = c.loop-i.invariant.1 ∙ c.put_line.auto.0
+shape_of-text c = c.loop-i.invariant.1 ∙ c.put_line.auto.text

@@ -4,17 +4,17 @@ use mathlib.Core.Path.{◌≡◌, ◌∙◌}
 use lib.ListN.{length, length-set}
 use Rattle.jobs_test.proofs.charts.put_line.Goals as goal
 
-first-length : (c : tie.After-write) → length c.write.new.1.0 ≡ length c.before.before.before.before.before.args.text.now
-first-length c = c.write.auto.1.0 ∙ simp length-set
-
 pub write-requires : goal.write-requires
 write-requires c = simp length-set (omega arith)
 
 pub write-requires-then-at-text : goal.write-requires-then-at-text
-write-requires-then-at-text c = omega (arith, first-length c)
+write-requires-then-at-text c = let first-length : length c.write.new.1.0 ≡ length c.args.text.now = c.write.auto.text ∙ simp length-set in
+    omega (arith, first-length)
 
 pub bounds-text-at-then-at-text : goal.bounds-text-at-then-at-text
-bounds-text-at-then-at-text c = omega (arith, c.write-then-at-text.auto.1.0, first-length c)
+bounds-text-at-then-at-text c = let first-length : length c.write.new.1.0 ≡ length c.args.text.now = c.write.auto.text ∙ simp length-set in
+    omega (arith, c.write-then-at-text.auto.text, first-length)
 
 pub shape_of-text : goal.shape_of-text
-shape_of-text c = simp length-set (c.write-then-at-text.auto.1.0 ∙ first-length c)
+shape_of-text c = let first-length : length c.write.new.1.0 ≡ length c.args.text.now = c.write.auto.text ∙ simp length-set in
+    simp length-set (c.write-then-at-text.auto.text ∙ first-length)
