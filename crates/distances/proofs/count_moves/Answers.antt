@@ -22,7 +22,7 @@ pub visit-tail-requires : goal.visit-tail-requires
 visit-tail-requires c =
     let chain = c.chain in
     let pre = c.requires in
-    record { by_index = ((_, (_, (chain.ensures, pre.0, c.loop-head.invariant.2))), c.loop-head-test.true, pre.1, pre.2); in_bounds = (omega (arith, chain.kept), omega (arith, chain.kept, pre.2), omega (arith, pre.4, c), omega (arith, pre.1, c)) }
+    record { by_index = ((_, (_, (chain.ensures, pre.0, c.loop-head.invariant.2))), c.loop-head-test.true, pre.1, pre.2); in_bounds = (omega (arith, chain.auto), omega (arith, chain.auto, pre.2), omega (arith, pre.4, c), omega (arith, pre.1, c)) }
 
 pub overflow_add-head : goal.overflow_add-head
 overflow_add-head c = omega (arith, c.loop-head-test.true, queue-most c.loop-head.invariant.2.queue, c.requires.1)

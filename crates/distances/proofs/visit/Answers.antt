@@ -1,6 +1,7 @@
 -- `visit` meets its contract: the invariant says that the lines into the position before i were looked at.
 use native.Mathlib.Omega.{arith}
 use Prim.Native.Nat.{ℕ, ◌+◌, ◌-◌, ◌<◌}
+use Rattle.std.proofs.Common.{List}
 use mathlib.Core.Path.{◌≡◌, refl, ◌∙◌}
 use lib.ListN.{get_or}
 use Rattle.chains.specs.Chains.{Chained, next_of}
@@ -70,10 +71,10 @@ pub reach-last-requires : goal.reach-last-requires
 reach-last-requires c =
     let target : ℕ = get_or c.args.order.now c.args.head 0 in
     let visiting : Visiting c.args.n c.args.m c.requires.by_index.0.0 c.args.froms.now c.requires.by_index.0.1.0 c.args.head (target) (get_or c.args.left.now (target) 0 + 1) c.loop-i.left c.loop-i.order c.loop-i.last c.loop-i.i = c.loop-i.invariant.2 _ _ c.requires.by_index.0.1.1.0 c.requires.by_index.0.1.1.1 c.requires.by_index.0.1.1.2 in
-    let pre = c.requires in
-    let from = pre.0.0.1.1.1.from-inside _ c.loop-i-test.true in
+
+    let from = c.requires.by_index.0.1.1.1.from-inside _ c.loop-i-test.true in
     let queue = (visiting).search.queue in
-    (omega (arith, from, pre.0.2), omega (arith, from, pre.1, c), omega (arith, queue-most queue, pre.0.2), λ none. omega (arith, queue-room queue from none, pre.1, c))
+    (omega (arith, from, c.requires.by_index.2), omega (arith, from, c.requires.in_bounds, c), omega (arith, queue-most queue, c.requires.by_index.2), λ none. omega (arith, queue-room queue from none, c.requires.in_bounds, c))
 
 pub offset_bounds-nexts-i : goal.offset_bounds-nexts-i
 offset_bounds-nexts-i c = omega (arith, c.loop-i-test.true, c.requires.by_index.3)
@@ -86,14 +87,14 @@ overflow_cast-i-in-loop-i c = omega (arith, c.shared_slice_known-in-loop-i-2-1.g
 
 pub loop-i-smaller : goal.loop-i-smaller
 loop-i-smaller c =
-    let next-line : Chained tos c.args.m 0 c.args.heads.now c.args.nexts.now → Joins c.args.n c.args.m c.args.froms.now tos → c.loop-i.i < c.args.m → get_or c.args.nexts.now c.loop-i.i 0 ≡ next_of tos c.args.m (get_or tos c.loop-i.i 0) (c.loop-i.i + 1) = λ marks tos chained joins l. chained.next c.loop-i.i (omega arith) l (λ z. omega (arith, joins.to_inside c.loop-i.i l, c.requires.by_index.2)) in
+    let next-line : (marks tos : List ℕ) → Chained tos c.args.m 0 c.args.heads.now c.args.nexts.now → Joins c.args.n c.args.m c.args.froms.now tos → c.loop-i.i < c.args.m → get_or c.args.nexts.now c.loop-i.i 0 ≡ next_of tos c.args.m (get_or tos c.loop-i.i 0) (c.loop-i.i + 1) = λ marks tos chained joins l. chained.next c.loop-i.i (omega arith) l (λ z. omega (arith, joins.to_inside c.loop-i.i l, c.requires.by_index.2)) in
     let turn = c.loop-i-test.true in
     let known = c.requires.by_index.0.1.1 in
     omega (arith, turn, next-above c.requires.by_index.0.1.0 c.args.m (get_or c.requires.by_index.0.1.0 c.loop-i.i 0) (c.loop-i.i + 1) _ (omega arith) c.requires.by_index.3 (next-line c.requires.by_index.0.0 c.requires.by_index.0.1.0 known.0 known.1 turn))
 
 pub loop-i-preserved : goal.loop-i-preserved
 loop-i-preserved c =
-    let next-line : Chained tos c.args.m 0 c.args.heads.now c.args.nexts.now → Joins c.args.n c.args.m c.args.froms.now tos → c.loop-i.i < c.args.m → get_or c.args.nexts.now c.loop-i.i 0 ≡ next_of tos c.args.m (get_or tos c.loop-i.i 0) (c.loop-i.i + 1) = λ marks tos chained joins l. chained.next c.loop-i.i (omega arith) l (λ z. omega (arith, joins.to_inside c.loop-i.i l, c.requires.by_index.2)) in
+    let next-line : (marks tos : List ℕ) → Chained tos c.args.m 0 c.args.heads.now c.args.nexts.now → Joins c.args.n c.args.m c.args.froms.now tos → c.loop-i.i < c.args.m → get_or c.args.nexts.now c.loop-i.i 0 ≡ next_of tos c.args.m (get_or tos c.loop-i.i 0) (c.loop-i.i + 1) = λ marks tos chained joins l. chained.next c.loop-i.i (omega arith) l (λ z. omega (arith, joins.to_inside c.loop-i.i l, c.requires.by_index.2)) in
     let turn = c.loop-i-test.true in
     let reached = c.reach-last.ensures in
     let sizes = reached-lengths reached in (

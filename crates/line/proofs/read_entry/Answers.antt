@@ -5,20 +5,20 @@ use Rattle.line.proofs.read_entry.Goals as goal
 
 pub returns-then-spells : goal.returns-then-spells
 unfolding entry_at entry_of or_word word_of dash_text field_at
-returns-then-spells c = simp (← c.read.ensures, c.enum_told-in-Bad-1.given.1, ← c.spells.ensures, c.if-spells.true)
+returns-then-spells c = simp (← c.in-Bad.ensures, ← c.spells.ensures, c.if-spells.true)
 
 pub returns-then-spells-2 : goal.returns-then-spells-2
 unfolding entry_at entry_of or_word word_of dash_text ever_text field_at
-returns-then-spells-2 c = simp (← c.read.ensures, c.enum_told-in-Bad-1.given.1, ← c.spells.ensures, c.if-spells.false, ← c.spells-in-Bad.ensures, c.if-spells-2.true)
+returns-then-spells-2 c = simp (← c.in-Bad.ensures, ← c.spells.ensures, c.if-spells.false, ← c.spells-in-Bad.ensures, c.if-spells-2.true)
 
 pub returns-in-Number : goal.returns-in-Number
 unfolding entry_at entry_of or_word field_at
-returns-in-Number c = simp (← c.read.ensures, c.x-1.given.1)
+returns-in-Number c = simp (← c.in-Number.ensures)
 
 pub returns-in-Blank : goal.returns-in-Blank
 unfolding entry_at entry_of or_word field_at
-returns-in-Blank c = simp (← c.read.ensures, c.enum_told-1.given.1)
+returns-in-Blank c = simp (← c.in-Blank.ensures)
 
 pub returns-else-spells-2 : goal.returns-else-spells-2
 unfolding entry_at entry_of or_word word_of dash_text ever_text field_at
-returns-else-spells-2 c = simp (← c.read.ensures, c.enum_told-in-Bad-1.given.1, ← c.spells.ensures, c.if-spells.false, ← c.spells-in-Bad.ensures, c.if-spells-2.false)
+returns-else-spells-2 c = simp (← c.in-Bad.ensures, ← c.spells.ensures, c.if-spells.false, ← c.spells-in-Bad.ensures, c.if-spells-2.false)

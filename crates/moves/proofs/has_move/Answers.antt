@@ -12,7 +12,7 @@ pub loop-i-init : goal.loop-i-init
 loop-i-init c = let pre = c.requires in (omega arith, pre.2.within, none_before _ pre.2)
 
 pub offset_bounds-froms-i : goal.offset_bounds-froms-i
-offset_bounds-froms-i c = omega (arith, c.fits)
+offset_bounds-froms-i c = omega (arith, c.ranges.first.fits)
 
 pub bounds-froms-i : goal.bounds-froms-i
 bounds-froms-i c = omega (arith, c.requires.0.froms-row)

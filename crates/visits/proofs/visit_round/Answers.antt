@@ -1,6 +1,8 @@
 -- `visit_round` meets its contract: the invariant says that the positions of the order before `at` were visited.
 use Prim.Native.Nat.{◌-◌}
 use native.Mathlib.Omega.{arith}
+use Rattle.std.proofs.Common.{ℕ}
+use Rattle.visits.specs.Standing.{Setting}
 use mathlib.Core.Path.{◌≡◌}
 use Rattle.visits.specs.Lists.{listed-most}
 use Rattle.visits.specs.Standing.{Ready}
@@ -15,7 +17,7 @@ loop-at-init c = (
 
 pub visit-grown-requires : goal.visit-grown-requires
 visit-grown-requires c =
-    let ready_at : Ready g c.args.k c.args.head c.args.lists c.args.needs.now c.args.values.now c.args.steps.now c.args.order.now c.args.due.now c.args.later.now → Ready g c.args.k c.loop-at.at c.loop-at.grown c.loop-at.needs c.loop-at.values c.loop-at.steps c.loop-at.order c.loop-at.due c.loop-at.later = λ n g ready. let inv = c.loop-at.invariant.1 n g ready in ready-next g ready inv.0 inv.1 inv.2 (as-long-wide ready.wide c.loop-at.invariant.0) in
+    let ready_at : (n : ℕ) (g : Setting n c.args.starts.now c.args.entries.now) → Ready g c.args.k c.args.head c.args.lists c.args.needs.now c.args.values.now c.args.steps.now c.args.order.now c.args.due.now c.args.later.now → Ready g c.args.k c.loop-at.at c.loop-at.grown c.loop-at.needs c.loop-at.values c.loop-at.steps c.loop-at.order c.loop-at.due c.loop-at.later = λ n g ready. let inv = c.loop-at.invariant.1 n g ready in ready-next g ready inv.0 inv.1 inv.2 (as-long-wide ready.wide c.loop-at.invariant.0) in
     let inv = c.loop-at.invariant.1 _ c.requires.1.0 c.requires.1.1 in
     ((_, (c.requires.1.0, ready_at _ c.requires.1.0 c.requires.1.1)), omega (arith, inv.2.grown.longer, c.loop-at-test.true))
 
@@ -27,7 +29,7 @@ loop-at-smaller c = omega (arith, c.loop-at-test.true)
 
 pub loop-at-preserved : goal.loop-at-preserved
 loop-at-preserved c =
-    let ready_at : Ready g c.args.k c.args.head c.args.lists c.args.needs.now c.args.values.now c.args.steps.now c.args.order.now c.args.due.now c.args.later.now → Ready g c.args.k c.loop-at.at c.loop-at.grown c.loop-at.needs c.loop-at.values c.loop-at.steps c.loop-at.order c.loop-at.due c.loop-at.later = λ n g ready. let inv = c.loop-at.invariant.1 n g ready in ready-next g ready inv.0 inv.1 inv.2 (as-long-wide ready.wide c.loop-at.invariant.0) in
+    let ready_at : (n : ℕ) (g : Setting n c.args.starts.now c.args.entries.now) → Ready g c.args.k c.args.head c.args.lists c.args.needs.now c.args.values.now c.args.steps.now c.args.order.now c.args.due.now c.args.later.now → Ready g c.args.k c.loop-at.at c.loop-at.grown c.loop-at.needs c.loop-at.values c.loop-at.steps c.loop-at.order c.loop-at.due c.loop-at.later = λ n g ready. let inv = c.loop-at.invariant.1 n g ready in ready-next g ready inv.0 inv.1 inv.2 (as-long-wide ready.wide c.loop-at.invariant.0) in
     let visit = c.visit-grown in
     let turn = c.loop-at-test.true in (
       as-long-then c.loop-at.invariant.0 visit.ensures.long,
@@ -61,5 +63,5 @@ returns c =
       goes_on = λ n g ready.
           let inv = c.loop-at.invariant.1 n g ready in
           let all : c.loop-at.at ≡ c.args.lists.tail = omega (arith, inv.1, c.loop-at-test.false) in
-          rw all c inv.2;
+          rw all at inv.2;
     }
