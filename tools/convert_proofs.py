@@ -18,7 +18,7 @@ TRIVIAL = re.compile(
 
 
 def norm(name):
-    return name.replace("-", "_")
+    return name.replace("-", "_").lower()
 
 
 def clause_labels(root):
@@ -70,7 +70,9 @@ class Function:
         self.names, self.labels, self.crate, self.fn = names, labels, crate, fn
         self.parent, self.field = {}, {}
         self.callee = {}
-        for (old, up, (oldf, newf), callee, _rest), new in zip(names["places"], names["places_by_name"]):
+        self.arms = {}
+        for (old, up, (oldf, newf), callee, _rest), new, arm in zip(names["places"], names["places_by_name"], names["arms"]):
+            self.arms[old] = arm
             self.parent[old] = up
             self.field[old] = (oldf, newf)
             self.callee[old] = callee
@@ -137,18 +139,22 @@ class Function:
         at = self.base
         while at is not None:
             oldf, newf = self.field[at]
-            if norm(oldf) == norm(first) and oldf:
+            if oldf and norm(oldf) in (norm(first), norm(first).removesuffix("_lem")):
+                arm, steps = self.arms[at], tail.split(".")[1:]
+                for part, step, old_path in (arm[2] if arm else []):
+                    if norm(step) == norm(oldf) and old_path and steps[:len(old_path)] == old_path:
+                        return "c." + arm[0] + "." + part + "".join("." + s for s in steps[len(old_path):]), place
                 callee = self.callee[at]
                 if callee and tail.startswith(".ensures"):
                     short = callee.split("::")[-1]
                     have = self.labels.get(f"{callee.split('::')[0]}::{short}") or self.labels.get(short) or ([], [])
                     tail = ".ensures" + label_path(tail[len(".ensures"):], have[1])
-                if callee and tail.startswith(".auto."):
-                    steps = tail.split(".")[2:]
+                if callee and (tail.startswith(".auto.") or tail.startswith(".new.")):
+                    kind, steps = tail.split(".")[1], tail.split(".")[2:]
                     index = next((k for k, s in enumerate(steps) if s != "1"), len(steps))
                     names = self.names["params"].get(callee, [])
                     if index < len(names):
-                        tail = ".auto." + names[index] + "".join("." + s for s in steps[index + 1:])
+                        tail = f".{kind}." + names[index] + "".join("." + s for s in steps[index + 1:])
                 # (a test of `!b` now says what `b` is)
                 if newf.startswith("if-not-") and tail in (".true", ".false"):
                     return f"(not_from_{'false' if tail == '.true' else 'true'} _ c.{newf}{tail})", place
@@ -161,9 +167,14 @@ class Function:
         self.base = place
         aliases = {var: place}
         text = self.expand(text, helpers or {}, aliases, var)
-        path = re.compile(r"(?<![\w'.-])(" + WORD + r")((?:\.before)*)((?:\.[A-Za-z0-9_][\w'-]*)*)")
+        path = re.compile(r"(?<![\w'.-])(" + WORD + r")((?:\.before(?![\w'-]))*)((?:\.[A-Za-z0-9_][\w'-]*)*)")
         # a name for a place: put the path in its stead
-        let = re.compile(r"let (\w[\w'-]*) = (" + WORD + r")((?:\.before)*) in\s*")
+        let = re.compile(r"let (\w[\w'-]*) = (" + WORD + r")((?:\.before(?![\w'-]))*) in\s*")
+        pre = re.compile(r"let (\w[\w'-]*) = (" + WORD + r"(?:\.before(?![\w'-]))*\.(?:requires|pre)) in\s*")
+        if len(self.labels.get(self.fn, ([], []))[0]) > 1:
+            while pre.search(text):
+                m = pre.search(text)
+                text = text[:m.start()] + re.sub(r"(?<![\w'.-])" + re.escape(m.group(1)) + r"(?![\w'-])", lambda _: m.group(2), text[m.end():])
         while True:
             found = None
             for m in let.finditer(text):
@@ -180,6 +191,9 @@ class Function:
 
         def turn(m):
             if m.group(1) not in aliases:
+                return m.group(0)
+            # (`rw e at h` is no name of a place)
+            if m.group(1) == "at" and not m.group(2) and not m.group(3) and re.match(r" [\w(]", text[m.end():]):
                 return m.group(0)
             return self.path(aliases[m.group(1)], m.group(2).count(".before"), m.group(3), notes)[0]
         return path.sub(turn, text)
@@ -286,7 +300,7 @@ def convert(file, fun, crate, sub, notes):
         if ty == "Type 0" and re.match(r"(tie|lts)\.", code):
             kinds.add(name)
             continue
-        place = r"(?:(?:tie|lts)\.(?:Start|At|In|After|Then|Else)[^→]*?|" + ("|".join(map(re.escape, kinds)) or "\0") + r")"
+        place = r"(?:(?:tie|lts)\.(?:Start|At|In|After|Then|Else)[^→()]*|" + ("|".join(map(re.escape, kinds)) or "\0") + r")"
         p = re.match(r"(?:\((\S+) : " + place + r"\)|" + place + r") → (.*)$", ty) or re.match(r"\((\S+) : " + place + r"\) (\(.*)$", ty)
         if not p or not args:
             continue

@@ -2,10 +2,10 @@
 use Rattle.answers.proofs.compared_numbers.Goals as goal
 
 pub returns-in-Agree : goal.returns-in-Agree
-returns-in-Agree c = rw (c.enum_told-1.given.1, c.none.ensures)
+returns-in-Agree c = rw (c.in-Agree.is, c.none.ensures)
 
 pub returns-in-Differ : goal.returns-in-Differ
-returns-in-Differ c = rw (c.answer-1.given.1, c.none-in-Differ.ensures)
+returns-in-Differ c = rw (c.in-Differ.is, c.none-in-Differ.ensures)
 
 pub returns-in-Refused : goal.returns-in-Refused
-returns-in-Refused c = rw (c.answer-in-Refused-1.given.1, c.numbers.ensures)
+returns-in-Refused c = rw (c.in-Refused.is, c.numbers.ensures)

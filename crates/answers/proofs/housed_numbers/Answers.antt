@@ -2,7 +2,7 @@
 use Rattle.answers.proofs.housed_numbers.Goals as goal
 
 pub returns-in-Moved : goal.returns-in-Moved
-returns-in-Moved c = rw (c.answer-1.given.1, c.none.ensures)
+returns-in-Moved c = rw (c.in-Moved.is, c.none.ensures)
 
 pub returns-in-Refused : goal.returns-in-Refused
-returns-in-Refused c = rw (c.answer-in-Refused-1.given.1, c.numbers.ensures)
+returns-in-Refused c = rw (c.in-Refused.is, c.numbers.ensures)

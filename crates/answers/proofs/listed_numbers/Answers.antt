@@ -2,7 +2,7 @@
 use Rattle.answers.proofs.listed_numbers.Goals as goal
 
 pub returns-in-Lines : goal.returns-in-Lines
-returns-in-Lines c = rw (c.answer-1.given.1, c.none.ensures)
+returns-in-Lines c = rw (c.in-Lines.is, c.none.ensures)
 
 pub returns-in-Refused : goal.returns-in-Refused
-returns-in-Refused c = rw (c.answer-in-Refused-1.given.1, c.numbers.ensures)
+returns-in-Refused c = rw (c.in-Refused.is, c.numbers.ensures)

@@ -3,7 +3,7 @@ use mathlib.Core.Path.{◌∙◌}
 use Rattle.answers.proofs.started_numbers.Goals as goal
 
 pub returns-in-Begun : goal.returns-in-Begun
-returns-in-Begun c = rw (c.answer-1.given.1, c.none.ensures)
+returns-in-Begun c = rw (c.in-Begun.is, c.none.ensures)
 
 pub returns-in-Refused : goal.returns-in-Refused
-returns-in-Refused c = c.refused_step.ensures ∙ rw (c.answer-in-Refused-1.given.1, c.none-in-Refused.ensures)
+returns-in-Refused c = c.refused_step.ensures ∙ rw (c.in-Refused.is, c.none-in-Refused.ensures)

@@ -2,7 +2,7 @@
 use Rattle.answers.proofs.valued_numbers.Goals as goal
 
 pub returns-in-Rounds : goal.returns-in-Rounds
-returns-in-Rounds c = rw (c.answer-1.given.1, c.none.ensures)
+returns-in-Rounds c = rw (c.in-Rounds.is, c.none.ensures)
 
 pub returns-in-Refused : goal.returns-in-Refused
-returns-in-Refused c = rw (c.answer-in-Refused-1.given.1, c.numbers.ensures)
+returns-in-Refused c = rw (c.in-Refused.is, c.numbers.ensures)

@@ -2,4 +2,4 @@
 use Rattle.answers.proofs.weighed_numbers.Goals as goal
 
 pub returns-in-Refused : goal.returns-in-Refused
-returns-in-Refused c = rw (c.answer-1.given.1, c.numbers.ensures)
+returns-in-Refused c = rw (c.in-Refused.is, c.numbers.ensures)

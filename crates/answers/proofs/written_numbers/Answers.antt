@@ -2,7 +2,7 @@
 use Rattle.answers.proofs.written_numbers.Goals as goal
 
 pub returns-in-Length : goal.returns-in-Length
-returns-in-Length c = rw (c.answer-1.given.1, c.none.ensures)
+returns-in-Length c = rw (c.in-Length.is, c.none.ensures)
 
 pub returns-in-Refused : goal.returns-in-Refused
-returns-in-Refused c = rw (c.answer-in-Refused-1.given.1, c.numbers.ensures)
+returns-in-Refused c = rw (c.in-Refused.is, c.numbers.ensures)

@@ -23,8 +23,8 @@ returns-then-size-ne0 c = search cases
 pub after_header-requires : goal.after_header-requires
 after_header-requires c =
     let text = c.args.text.now in
-    let chart = c.chart-1.given.0.0 in
-    let w = header-accepts text chart (sym c.header.ensures ∙ c.chart-1.given.1) in
+    let chart = c.in-Accepted.chart in
+    let w = header-accepts text chart (sym c.header.ensures ∙ c.in-Accepted.is) in
     let limits = w.0 in
     let n : chart.positions ≡ positions_of text = ap (λ (k : Chart). k.positions) w.1 in
     let m : chart.moves ≡ moves_of text = ap (λ (k : Chart). k.moves) w.1 in
@@ -32,8 +32,8 @@ after_header-requires c =
 
 pub returns-in-Refused : goal.returns-in-Refused
 unfolding examined lines_after
-returns-in-Refused c = simp (← c.header.ensures, c.r-1.given.1) (search cases)
+returns-in-Refused c = simp (← c.header.ensures, c.in-Refused.is) (search cases)
 
 pub returns-in-Accepted : goal.returns-in-Accepted
 unfolding examined lines_after
-returns-in-Accepted c = simp (← c.header.ensures, c.chart-1.given.1, ← c.after_header.ensures) (search cases)
+returns-in-Accepted c = simp (← c.header.ensures, c.in-Accepted.is, ← c.after_header.ensures) (search cases)

@@ -39,7 +39,7 @@ shape_of-flags-in-Fault c = c.loop-line.invariant.4
 pub returns-in-Fault : goal.returns-in-Fault
 returns-in-Fault c =
     let a = c.args in
-    let found = sym c.line_fault.ensures ∙ c.r-1.given.1 in (
+    let found = sym c.line_fault.ensures ∙ c.in-Fault.is in (
       sym found ∙ sym (first-stop _ (line_finding a.text.now a.n) Clean (a.last + 1) c.loop-line.line (omega arith) (ap is_clean found)) ∙ c.loop-line.invariant.3,
       λ e. let z : ◌≡◌ {A = ℕ} 0 1 = cc e in absurd (omega arith),
     )
@@ -53,7 +53,7 @@ loop-line-preserved c =
       omega arith,
       omega arith,
       rw e c.row_at-row.ensures,
-      first_next _ (line_finding a.text.now a.n) Clean (a.last + 1) c.loop-line.line (omega arith) (ap is_clean (sym c.line_fault.ensures ∙ c.enum_told-1.given.1))
+      first_next _ (line_finding a.text.now a.n) Clean (a.last + 1) c.loop-line.line (omega arith) (ap is_clean (sym c.line_fault.ensures ∙ c.in-Clean.is))
           ∙ c.loop-line.invariant.3,
       c.flag_row.auto.flags ∙ c.loop-line.invariant.4,
       λ v h.

@@ -5,7 +5,7 @@ use Rattle.chart.proofs.mark.Goals as goal
 
 pub returns-in-Number : goal.returns-in-Number
 unfolding mark_of
-returns-in-Number c = simp c.f-1.given.1
+returns-in-Number c = simp c.in-Number.is
 
 pub returns-in-Blank : goal.returns-in-Blank
 unfolding mark_of

@@ -6,7 +6,7 @@ use Rattle.chart.proofs.numbered.Goals as goal
 
 pub returns-in-Number-second : goal.returns-in-Number-second
 unfolding numbered is_number
-returns-in-Number-second c = simp (c.enum_told-1.given.1, c.enum_told-in-Number-second-1.given.1)
+returns-in-Number-second c = simp (c.in-Number.is, c.in-Number-second.is)
 
 pub returns-in-Blank-second : goal.returns-in-Blank-second
 unfolding numbered is_number

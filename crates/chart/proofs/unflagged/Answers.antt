@@ -3,13 +3,13 @@ use Prim.Native.Nat.{ℕ, ◌+◌, ◌-◌}
 use mathlib.Core.Path.{◌≡◌, sym, ap, ◌∙◌}
 use native.Mathlib.Omega.{arith}
 use borrow.Author.Tests.{eq-eqb, ne_eqb}
-use mathlib.Core.Logic.{⊎_elim}
 use Rattle.chart.specs.Text.{letter_at}
 use Rattle.chart.specs.Examined.{is_clean, first_fault, unflagged_at}
 use Rattle.search.specs.First.{first_next, first-stop, first_done}
 use Rattle.chart.specs.declared.Finding.TheVariants.{Clean, Fault}
 use Rattle.refusal.specs.declared.Misdrawn.TheVariants.{NoMeant}
 use Rattle.chart.proofs.unflagged.Goals as goal
+use Rattle.chart.proofs.unflagged.Goals.{then-flags-v-eq0+else-letter_at-ne82, else-flags-v-eq0}
 
 pub loop-v-init : goal.loop-v-init
 loop-v-init c =
@@ -32,7 +32,10 @@ loop-v-preserved c =
     let a = c.args in
     let text = a.text.now in
     let clean : unflagged_at text a.flags.now c.loop-v.v ≡ Clean =
-    ⊎_elim (λ w. simp (eq-eqb _ _ w.0.taken, eq-eqb _ _ (sym w.1.ensures ∙ w.2.left))) (λ w. simp (ne_eqb _ _ w.left)) c.if-flags-v-eq0.branch in
+        elim c.if-flags-v-eq0.branch [
+          then-flags-v-eq0+else-letter_at-ne82 w ↦ simp (eq-eqb _ _ w.if-flags-v-eq0.true, eq-eqb _ _ (sym w.letter_at.ensures ∙ w.if-letter_at-ne82.false)) |
+          else-flags-v-eq0 w ↦ simp (ne_eqb _ _ w.if-flags-v-eq0.false)
+        ] in
     (omega arith, first_next _ (unflagged_at text a.flags.now) Clean a.n c.loop-v.v (omega arith) (ap is_clean clean) ∙ c.loop-v.invariant.1)
 
 pub returns : goal.returns

@@ -7,14 +7,14 @@ use Rattle.checking.proofs.check.Goals as goal
 
 pub check_plate-requires : goal.check_plate-requires
 check_plate-requires c =
-    let accepted : examined c.args.text.now ≡ Accepted c.chart-1.given.0.0 = sym c.load.ensures.answer ∙ c.chart-1.given.1 in
-    let rows = (c.load.ensures.taken _ c.chart-1.given.1).rows in
+    let accepted : examined c.args.text.now ≡ Accepted c.in-Accepted.chart = sym c.load.ensures.answer ∙ c.in-Accepted.is in
+    let rows = (c.load.ensures.taken _ c.in-Accepted.is).rows in
     ((_, rows), decoded-ascending _ _ (accepted) rows)
 
 pub returns-in-Refused : goal.returns-in-Refused
-returns-in-Refused c = refused-answer _ _ _ (sym c.load.ensures.answer ∙ c.r-1.given.1)
+returns-in-Refused c = refused-answer _ _ _ (sym c.load.ensures.answer ∙ c.in-Refused.is)
 
 pub returns-in-Accepted : goal.returns-in-Accepted
 returns-in-Accepted c =
-    let accepted : examined c.args.text.now ≡ Accepted c.chart-1.given.0.0 = sym c.load.ensures.answer ∙ c.chart-1.given.1 in
-    taken-answer _ _ _ (accepted) (c.load.ensures.taken _ c.chart-1.given.1).rows c.check_plate.ensures
+    let accepted : examined c.args.text.now ≡ Accepted c.in-Accepted.chart = sym c.load.ensures.answer ∙ c.in-Accepted.is in
+    taken-answer _ _ _ (accepted) (c.load.ensures.taken _ c.in-Accepted.is).rows c.check_plate.ensures

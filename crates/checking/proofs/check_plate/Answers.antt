@@ -7,21 +7,21 @@ use Rattle.checking.proofs.check_plate.Goals as goal
 pub check_rows-requires : goal.check_rows-requires
 check_rows-requires c =
     let pre = c.requires in
-    let read = loaded-rows c.load_plate.ensures c.header-1.given.1 in
+    let read = loaded-rows c.load_plate.ensures c.in-Rows.is in
     let few = pre.0.1.few-positions in
     (pre.0, pre.1, rows-formed _ _ few read.0 read.1, omega (arith, c.load_plate.auto, few), omega (arith, c.load_plate.auto, few), omega (arith, c.load_plate.auto, few))
 
 pub returns-in-Bad : goal.returns-in-Bad
-returns-in-Bad c = bad-answer (loaded-bad c.load_plate.ensures c.line-1.given.1)
+returns-in-Bad c = bad-answer (loaded-bad c.load_plate.ensures c.in-Bad.is)
 
 pub returns-in-Sound : goal.returns-in-Sound
 returns-in-Sound c =
     let pre = c.requires in
-    let read = loaded-rows c.load_plate.ensures c.header-1.given.1 in
-    formed-answer read.0 (formed-verdict _ _ pre.0.1.few-positions read.0 read.1 c.check_rows.ensures) c.enum_told-1.given.1
+    let read = loaded-rows c.load_plate.ensures c.in-Rows.is in
+    formed-answer read.0 (formed-verdict _ _ pre.0.1.few-positions read.0 read.1 c.check_rows.ensures) c.in-Sound.is
 
 pub returns-in-Fault : goal.returns-in-Fault
 returns-in-Fault c =
     let pre = c.requires in
-    let read = loaded-rows c.load_plate.ensures c.header-1.given.1 in
-    formed-answer read.0 (formed-verdict _ _ pre.0.1.few-positions read.0 read.1 c.check_rows.ensures) c.v-1.given.1
+    let read = loaded-rows c.load_plate.ensures c.in-Rows.is in
+    formed-answer read.0 (formed-verdict _ _ pre.0.1.few-positions read.0 read.1 c.check_rows.ensures) c.in-Fault.is

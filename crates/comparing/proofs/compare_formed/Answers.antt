@@ -10,8 +10,8 @@ returns-then-not-weigh_rows c = unlawful-compared c.weigh_rows.ensures (not-true
 
 pub returns-in-Fault : goal.returns-in-Fault
 returns-in-Fault c =
-    faulty-compared c.weigh_rows.ensures (not-false _ (not_from_true _ c.if-not-weigh_rows.false)) c.check_formed.ensures c.v-1.given.1
+    faulty-compared c.weigh_rows.ensures (not-false _ (not_from_true _ c.if-not-weigh_rows.false)) c.check_formed.ensures c.in-Fault.is
 
 pub returns-in-Sound : goal.returns-in-Sound
 returns-in-Sound c =
-    sound-compared c.weigh_rows.ensures (not-false _ (not_from_true _ c.if-not-weigh_rows.false)) c.check_formed.ensures c.enum_told-1.given.1 c.compare_worths.ensures
+    sound-compared c.weigh_rows.ensures (not-false _ (not_from_true _ c.if-not-weigh_rows.false)) c.check_formed.ensures c.in-Sound.is c.compare_worths.ensures

@@ -8,10 +8,9 @@ use Rattle.decode.proofs.load.Goals as goal
 
 pub walk-requires : goal.walk-requires
 walk-requires c =
-    let pre = c.requires in
-    let room = pre.0.0 in
-    let more = pre.0.1 in
-    (sym c.header.ensures ∙ c.chart-1.given.1, ((omega arith, omega arith), pre.1))
+    let room = c.requires.in_bounds.0 in
+    let more = c.requires.in_bounds.1 in
+    (sym c.header.ensures ∙ c.in-Accepted.is, ((omega arith, omega arith), c.requires.in_bounds_2))
 
 pub returns-then-walk : goal.returns-then-walk
 returns-then-walk c =
@@ -26,11 +25,10 @@ load_exactly-requires-in-Accepted c =
     let three = rows.costs-kept.same_length in
     let four = rows.froms-kept.same_length in
     let five = rows.tos-kept.same_length in
-    let pre = c.requires in
-    record { in_bounds = (omega (arith, pre.0.0), omega (arith, pre.0.1)); in_bounds_2 = (omega (arith, pre.1.0), omega (arith, pre.1.1), omega (arith, pre.1.2)) }
+    record { in_bounds = (omega (arith, c.requires.in_bounds.0), omega (arith, c.requires.in_bounds.1)); in_bounds_2 = (omega (arith, c.requires.in_bounds_2.0), omega (arith, c.requires.in_bounds_2.1), omega (arith, c.requires.in_bounds_2.2)) }
 
 pub returns-else-walk : goal.returns-else-walk
 returns-else-walk c =
     let rows = c.walk.ensures in
-    load_after _ _ _ _ _ _ _ _ _ _ _ _ _ _ _ _ _ _ (sym c.header.ensures ∙ c.chart-1.given.1)
+    load_after _ _ _ _ _ _ _ _ _ _ _ _ _ _ _ _ _ _ (sym c.header.ensures ∙ c.in-Accepted.is)
     rows.owners-kept rows.marks-kept rows.costs-kept rows.froms-kept rows.tos-kept c.load_exactly-in-Accepted.ensures

@@ -57,4 +57,4 @@ shape_of-order c = omega (arith, c.loop-i.invariant)
 pub returns : goal.returns
 returns c =
     let all : c.loop-i.i ≡ c.args.late = omega (arith, c.loop-i.invariant.4, c.loop-i-test.false) in
-    record { values-row = c.loop-i.invariant.0; steps-row = c.loop-i.invariant.1; order_row = c.loop-i.invariant.2; goes_on = λ n gathered. rw all c (c.loop-i.invariant.3 n gathered) }
+    record { values-row = c.loop-i.invariant.0; steps-row = c.loop-i.invariant.1; order_row = c.loop-i.invariant.2; goes_on = λ n gathered. rw all at (c.loop-i.invariant.3 n gathered) }

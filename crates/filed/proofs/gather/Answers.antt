@@ -41,4 +41,4 @@ pub shape_of-later : goal.shape_of-later
 shape_of-later c = omega (arith, c.loop-v.invariant.1)
 
 pub returns : goal.returns
-returns c = let all : c.loop-v.v ≡ c.args.n = omega (arith, c.loop-v.invariant.0, c.loop-v-test.false) in rw all c c.loop-v.invariant.2
+returns c = let all : c.loop-v.v ≡ c.args.n = omega (arith, c.loop-v.invariant.0, c.loop-v-test.false) in rw all at c.loop-v.invariant.2

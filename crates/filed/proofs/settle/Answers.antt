@@ -54,7 +54,7 @@ returns-then-grown-end c =
           let none = c.if-grown-end.true in
           let next = ready-next g inv.1 inv.1.started (omega arith) done (as-long-wide inv.1.wide round.ensures.long) in (
             settling-stops (omega (arith, ready.small)) inv.0 (flags-noted g inv.1 done round.ensures.long) (flags-placing g inv.1 done round.ensures.long) (flags-empty g inv.1 done round.ensures.long none),
-            (rw (← none) c next),
+            (rw (← none) at next),
             omega (arith, inv.3, none),
           );
     }

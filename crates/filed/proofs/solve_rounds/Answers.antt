@@ -4,7 +4,7 @@ use native.Mathlib.Omega.{arith}
 use Rattle.rows.specs.Rows.{RowIs}
 use Rattle.rows.specs.Numbers.{number_at}
 use Rattle.solver.specs.SolveLaws.{begin-again, solved-after, solving-done}
-use Rattle.visits.specs.Standing.{Ready}
+use Rattle.visits.specs.Standing.{Setting, Ready}
 use Rattle.visits.specs.VisitLaws.{as-long-same, as-long-then}
 use Rattle.filed.proofs.solve_rounds.Goals as goal
 
@@ -18,7 +18,7 @@ pub overflow_cast-last : goal.overflow_cast-last
 overflow_cast-last c = omega (arith, c.loop-last.invariant.2, c.requires.n_in_bounds.0.0.few-positions)
 
 pub next_value-lists-requires : goal.next_value-lists-requires
-next_value-lists-requires c = let ready_at : RowIs c.args.needs.now (2 * c.args.n) (number_at g.first) → Ready g c.loop-last.last c.loop-last.lists.tail c.loop-last.lists c.loop-last.needs c.loop-last.values c.loop-last.steps c.loop-last.order c.loop-last.due c.loop-last.later = λ g first. let f = c.first_value-lists.ensures.goes_on g first in (c.loop-last.invariant.1 g (begin-again f.0) f.1).1 in
+next_value-lists-requires c = let ready_at : (g : Setting c.args.n c.args.starts.now c.args.entries.now) → RowIs c.args.needs.now (2 * c.args.n) (number_at g.first) → Ready g c.loop-last.last c.loop-last.lists.tail c.loop-last.lists c.loop-last.needs c.loop-last.values c.loop-last.steps c.loop-last.order c.loop-last.due c.loop-last.later = λ g first. let f = c.first_value-lists.ensures.goes_on g first in (c.loop-last.invariant.1 g (begin-again f.0) f.1).1 in
     ((_, (c.requires.n_in_bounds.0.0, ready_at c.requires.n_in_bounds.0.0 c.requires.n_in_bounds.0.1)), omega (arith, c.loop-last-test.true, c.requires.n_in_bounds.0.0.few-positions))
 
 pub shape_of-needs-then-lists-head : goal.shape_of-needs-then-lists-head

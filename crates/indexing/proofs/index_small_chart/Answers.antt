@@ -5,11 +5,11 @@ use Rattle.indexing.proofs.index_small_chart.Goals as goal
 
 pub index_rows-requires : goal.index_rows-requires
 index_rows-requires c =
-    (_, (c.load.ensures.taken _ c.chart-1.given.1).rows)
+    (_, (c.load.ensures.taken _ c.in-Accepted.is).rows)
 
 pub returns-in-Refused : goal.returns-in-Refused
-returns-in-Refused c = indexed-refused _ (sym c.load.ensures.answer ∙ c.r-1.given.1)
+returns-in-Refused c = indexed-refused _ (sym c.load.ensures.answer ∙ c.in-Refused.is)
 
 pub returns-in-Accepted : goal.returns-in-Accepted
 returns-in-Accepted c =
-    indexed-rows _ (sym c.load.ensures.answer ∙ c.chart-1.given.1) (c.load.ensures.taken _ c.chart-1.given.1).rows c.index_rows.ensures
+    indexed-rows _ (sym c.load.ensures.answer ∙ c.in-Accepted.is) (c.load.ensures.taken _ c.in-Accepted.is).rows c.index_rows.ensures

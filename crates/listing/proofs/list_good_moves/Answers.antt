@@ -5,11 +5,11 @@ use Rattle.listing.proofs.list_good_moves.Goals as goal
 
 pub list_rows-requires : goal.list_rows-requires
 list_rows-requires c =
-    (_, (c.load.ensures.taken _ c.chart-1.given.1).rows)
+    (_, (c.load.ensures.taken _ c.in-Accepted.is).rows)
 
 pub returns-in-Refused : goal.returns-in-Refused
-returns-in-Refused c = listed-refused (sym c.load.ensures.answer ∙ c.r-1.given.1)
+returns-in-Refused c = listed-refused (sym c.load.ensures.answer ∙ c.in-Refused.is)
 
 pub returns-in-Accepted : goal.returns-in-Accepted
 returns-in-Accepted c =
-    listed-rows (sym c.load.ensures.answer ∙ c.chart-1.given.1) (c.load.ensures.taken _ c.chart-1.given.1).rows c.list_rows.ensures
+    listed-rows (sym c.load.ensures.answer ∙ c.in-Accepted.is) (c.load.ensures.taken _ c.in-Accepted.is).rows c.list_rows.ensures

@@ -14,19 +14,19 @@ pick_good-lines-requires c =
 
 pub overflow_mul-lines : goal.overflow_mul-lines
 overflow_mul-lines c =
-    omega (arith, c.requires.1.few-moves, picked-fewer c.Pick-Good.ensures)
+    omega (arith, c.requires.1.few-moves, picked-fewer c.pick_good-lines.ensures)
 
 pub returns-then-sheet-lines : goal.returns-then-sheet-lines
 returns-then-sheet-lines c =
-    rows_short c.solve_filed.ensures c.Pick-Good.ensures (lt-leb _ _ c.if-sheet-lines.true)
+    rows_short c.solve_filed.ensures c.pick_good-lines.ensures (lt-leb _ _ c.if-sheet-lines.true)
 
 pub write_lines-requires : goal.write_lines-requires
 write_lines-requires c =
-    let fewer = picked-fewer c.Pick-Good.ensures in
+    let fewer = picked-fewer c.pick_good-lines.ensures in
     let few = c.requires.1.few-moves in
-    let kept = c.Pick-Good.auto in
+    let kept = c.pick_good-lines.auto in
     (omega (arith, fewer, few, kept), omega (arith, fewer, few, kept), c.if-sheet-lines.false)
 
 pub returns : goal.returns
 returns c =
-    rows-listed c.solve_filed.ensures c.Pick-Good.ensures (le-leb _ _ c.if-sheet-lines.false) c.write_lines.ensures
+    rows-listed c.solve_filed.ensures c.pick_good-lines.ensures (le-leb _ _ c.if-sheet-lines.false) c.write_lines.ensures

@@ -5,16 +5,16 @@ use Rattle.plate.proofs.dash_or_below.Goals as goal
 
 pub returns-in-Number : goal.returns-in-Number
 unfolding dash_or_below
-returns-in-Number c = simp (← c.read_entry.ensures, c.x-1.given.1) (search cases)
+returns-in-Number c = simp (← c.read_entry.ensures, c.in-Number.is) (search cases)
 
 pub returns-in-Dash : goal.returns-in-Dash
 unfolding dash_or_below
-returns-in-Dash c = simp (← c.read_entry.ensures, c.enum_told-1.given.1)
+returns-in-Dash c = simp (← c.read_entry.ensures, c.in-Dash.is)
 
 pub returns-in-Ever : goal.returns-in-Ever
 unfolding dash_or_below
-returns-in-Ever c = simp (← c.read_entry.ensures, c.enum_told-in-Ever-1.given.1)
+returns-in-Ever c = simp (← c.read_entry.ensures, c.in-Ever.is)
 
 pub returns-in-Bad : goal.returns-in-Bad
 unfolding dash_or_below
-returns-in-Bad c = simp (← c.read_entry.ensures, c.enum_told-in-Bad-1.given.1)
+returns-in-Bad c = simp (← c.read_entry.ensures, c.in-Bad.is)

@@ -19,15 +19,15 @@ returns-then-passes c =
 
 pub read_rows-requires : goal.read_rows-requires
 read_rows-requires c =
-    let touched = c.passes.ensures.touched in record { n_bound = (c.requires.0, sym c.examine_plate.ensures ∙ c.enum_told-1.given.1); n_in_bounds = (omega (arith, touched.value.same_length), omega (arith, touched.choice.same_length), omega (arith, touched.step.same_length)) }
+    let touched = c.passes.ensures.touched in record { n_bound = (c.requires.0, sym c.examine_plate.ensures ∙ c.in-Good.is); n_in_bounds = (omega (arith, touched.value.same_length), omega (arith, touched.choice.same_length), omega (arith, touched.step.same_length)) }
 
 pub returns-in-Good : goal.returns-in-Good
 unfolding PlateLoadedAs
 returns-in-Good c =
-    record { loaded = (sym c.examine_plate.ensures ∙ c.enum_told-1.given.1, read-after c.passes.ensures.touched c.read_rows.ensures) }
+    record { loaded = (sym c.examine_plate.ensures ∙ c.in-Good.is, read-after c.passes.ensures.touched c.read_rows.ensures) }
 
 pub returns-in-Bad : goal.returns-in-Bad
 unfolding PlateLoadedAs
 returns-in-Bad c =
     let touched = c.passes.ensures.touched in
-    record { loaded = (sym c.examine_plate.ensures ∙ c.line-1.given.1, filled-after touched.value c.clear.ensures, filled-after touched.choice c.clear-in-Bad.ensures, filled-after touched.step c.clear-in-Bad-2.ensures) }
+    record { loaded = (sym c.examine_plate.ensures ∙ c.in-Bad.is, filled-after touched.value c.clear.ensures, filled-after touched.choice c.clear-in-Bad.ensures, filled-after touched.step c.clear-in-Bad-2.ensures) }

@@ -43,7 +43,7 @@ bounds-steps-v c = omega (arith, c.loop-v.invariant.2.step.same_length)
 pub loop-v-preserved : goal.loop-v-preserved
 loop-v-preserved c =
     let turn = c.loop-v in
-    let line = c.line_at_lem.ensures in
+    let line = c.line_at-line.ensures in
     let good = not-false _ (not_from_true _ c.if-not-line.false) in
     (omega arith, below_more _ _ turn.invariant.1 (line.form good), columns-next (omega arith) (omega arith) (omega arith) line good turn.invariant.2)
 

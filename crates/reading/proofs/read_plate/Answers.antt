@@ -10,36 +10,36 @@ use mathlib.Core.Path.{◌≡◌, sym, ◌∙◌}
 use Rattle.reading.proofs.read_plate.Goals as goal
 
 pub returns-then-values-n : goal.returns-then-values-n
-returns-then-values-n c = let accepted : examined c.args.text.now ≡ Accepted c.chart-1.given.0.0 = sym c.examine.ensures ∙ c.chart-1.given.1 in
+returns-then-values-n c = let accepted : examined c.args.text.now ≡ Accepted c.in-Accepted.chart = sym c.examine.ensures ∙ c.in-Accepted.is in
     reading-short (accepted) (search cases)
 
 pub returns-then-choices-n : goal.returns-then-choices-n
-returns-then-choices-n c = let accepted : examined c.args.text.now ≡ Accepted c.chart-1.given.0.0 = sym c.examine.ensures ∙ c.chart-1.given.1 in
+returns-then-choices-n c = let accepted : examined c.args.text.now ≡ Accepted c.in-Accepted.chart = sym c.examine.ensures ∙ c.in-Accepted.is in
     reading-short (accepted) (search cases)
 
 pub returns-then-steps-n : goal.returns-then-steps-n
-returns-then-steps-n c = let accepted : examined c.args.text.now ≡ Accepted c.chart-1.given.0.0 = sym c.examine.ensures ∙ c.chart-1.given.1 in
+returns-then-steps-n c = let accepted : examined c.args.text.now ≡ Accepted c.in-Accepted.chart = sym c.examine.ensures ∙ c.in-Accepted.is in
     reading-short (accepted) (search cases)
 
 pub read_rows-requires : goal.read_rows-requires
 read_rows-requires c =
-    let accepted : examined c.args.text.now ≡ Accepted c.chart-1.given.0.0 = sym c.examine.ensures ∙ c.chart-1.given.1 in
-    record { n_bound = (accepted-few _ _ (accepted), sym c.examine_plate.ensures ∙ c.enum_told-1.given.1); n_in_bounds = (c.if-values-n.false, c.if-choices-n.false, c.if-steps-n.false) }
+    let accepted : examined c.args.text.now ≡ Accepted c.in-Accepted.chart = sym c.examine.ensures ∙ c.in-Accepted.is in
+    record { n_bound = (accepted-few _ _ (accepted), sym c.examine_plate.ensures ∙ c.in-Good.is); n_in_bounds = (c.if-values-n.false, c.if-choices-n.false, c.if-steps-n.false) }
 
 pub returns-in-Refused : goal.returns-in-Refused
-returns-in-Refused c = reading-refused (sym c.examine.ensures ∙ c.r-1.given.1)
+returns-in-Refused c = reading-refused (sym c.examine.ensures ∙ c.in-Refused.is)
 
 pub returns-in-Bad : goal.returns-in-Bad
 returns-in-Bad c =
-    let accepted : examined c.args.text.now ≡ Accepted c.chart-1.given.0.0 = sym c.examine.ensures ∙ c.chart-1.given.1 in
+    let accepted : examined c.args.text.now ≡ Accepted c.in-Accepted.chart = sym c.examine.ensures ∙ c.in-Accepted.is in
     reading-malformed (accepted)
     (simp (le-leb _ _ c.if-values-n.false, le-leb _ _ c.if-choices-n.false, le-leb _ _ c.if-steps-n.false))
-    (sym c.examine_plate.ensures ∙ c.line-1.given.1)
+    (sym c.examine_plate.ensures ∙ c.in-Bad.is)
 
 pub returns-in-Good : goal.returns-in-Good
 returns-in-Good c =
-    let accepted : examined c.args.text.now ≡ Accepted c.chart-1.given.0.0 = sym c.examine.ensures ∙ c.chart-1.given.1 in
+    let accepted : examined c.args.text.now ≡ Accepted c.in-Accepted.chart = sym c.examine.ensures ∙ c.in-Accepted.is in
     reading-taken (accepted)
     (simp (le-leb _ _ c.if-values-n.false, le-leb _ _ c.if-choices-n.false, le-leb _ _ c.if-steps-n.false))
-    (sym c.examine_plate.ensures ∙ c.enum_told-1.given.1)
+    (sym c.examine_plate.ensures ∙ c.in-Good.is)
     c.read_rows.ensures

@@ -4,8 +4,8 @@ use Rattle.response.proofs.respond.Goals as goal
 
 pub returns-in-Length : goal.returns-in-Length
 returns-in-Length c =
-    responded-plate _ _ c.requires _ _ (rw c.k-1.given.1 at c.write_plate.ensures)
+    responded-plate _ _ c.requires _ _ (rw c.in-Length.is at c.write_plate.ensures)
 
 pub returns-in-Refused : goal.returns-in-Refused
 returns-in-Refused c =
-    responded-line _ _ c.requires _ _ _ (rw c.r-1.given.1 at c.write_plate.ensures) (rw c.numbers-numbers.ensures at c.write_line.ensures)
+    responded-line _ _ c.requires _ _ _ (rw c.in-Refused.is at c.write_plate.ensures) (rw c.numbers-numbers.ensures at c.write_line.ensures)

@@ -20,10 +20,9 @@ returns-then-worths-position c = found_none c.solve_restricted-count.ensures c.r
 
 pub follow_shortest-requires : goal.follow_shortest-requires
 follow_shortest-requires c =
-    let pre = c.requires in
-    let d = pre.0.0.1.0 in
-    let weighed = c.solve_restricted-count.ensures.rows _ d pre.0.0.1.1 in
-    record { n_in_bounds = ((_, (_, (_, weighed))), omega (arith, d.few-positions, c.solve_restricted-count.kept), pre.0.2, c.if-worths-position.false); n_in_bounds_2 = pre.1 }
+    let d = c.requires.n_in_bounds.0.1.0 in
+    let weighed = c.solve_restricted-count.ensures.rows _ d c.requires.n_in_bounds.0.1.1 in
+    record { n_in_bounds = ((_, (_, (_, weighed))), omega (arith, d.few-positions, c.solve_restricted-count.kept), c.requires.n_in_bounds.2, c.if-worths-position.false); n_in_bounds_2 = c.requires.n_in_bounds_2 }
 
 pub returns : goal.returns
 returns c =

@@ -25,14 +25,12 @@ point_on-requires c =
 
 pub follow-requires : goal.follow-requires
 follow-requires c =
-    let pre = c.requires in
-    let w = pre.0.0.1.1.1 in
+    let w = c.requires.n_in_bounds.0.1.1.1 in
     let n = w.rows.few-positions in
     let on = leads-on w c.straighten.ensures c.count_moves.ensures c.point_on.ensures in
-    let few = few-left w c.straighten.ensures c.count_moves.ensures c.point_on.ensures _ pre.0.2 pre.0.3 in
-    record { leads_on = (on, n, pre.0.2, few); n_in_bounds = (pre.0.1, omega (arith, n, c.count_moves.kept), omega (arith, n, c.point_on.auto), pre.1.0, pre.1.1) }
+    let few = few-left w c.straighten.ensures c.count_moves.ensures c.point_on.ensures _ c.requires.n_in_bounds.2 c.requires.n_in_bounds.3 in
+    record { leads_on = (on, n, c.requires.n_in_bounds.2, few); n_in_bounds = (c.requires.n_in_bounds.1, omega (arith, n, c.count_moves.kept), omega (arith, n, c.point_on.auto), c.requires.n_in_bounds_2.0, c.requires.n_in_bounds_2.1) }
 
 pub returns : goal.returns
 returns c =
-    let pre = c.requires in
-    record { way = λ a choice owners w. way-lines w c.straighten.ensures c.count_moves.ensures c.point_on.ensures pre.0.2 pre.0.3 c.follow.ensures }
+    record { way = λ a choice owners w. way-lines w c.straighten.ensures c.count_moves.ensures c.point_on.ensures c.requires.n_in_bounds.2 c.requires.n_in_bounds.3 c.follow.ensures }

@@ -5,8 +5,8 @@ use Rattle.run.proofs.off_chart.Goals as goal
 
 pub returns-in-Bad : goal.returns-in-Bad
 unfolding off_chart
-returns-in-Bad c = ap off_chart (sym c.line-1.given.1 ∙ c.examine_plate.ensures)
+returns-in-Bad c = ap off_chart (sym c.in-Bad.is ∙ c.examine_plate.ensures)
 
 pub returns-in-Good : goal.returns-in-Good
 unfolding off_chart
-returns-in-Good c = ap off_chart (sym c.enum_told-1.given.1 ∙ c.examine_plate.ensures)
+returns-in-Good c = ap off_chart (sym c.in-Good.is ∙ c.examine_plate.ensures)

@@ -11,22 +11,22 @@ pub returns-then-seen-ge-COUNTED : goal.returns-then-seen-ge-COUNTED
 unfolding reported_move
 returns-then-seen-ge-COUNTED c =
     held-report _ _ _ c.if-here-run.false (value_of _ _ c.advice_at-here.ensures) c.move_kind.ensures (choice-of _ _ c.advice_at-here.ensures)
-    c.enum_told-in-Disturbance-1.given.1 (rw (le-ltb _ _ c.if-seen-ge-COUNTED.true) c.unmoved-then-seen-ge-COUNTED.ensures)
+    c.in-Disturbance.is (rw (le-ltb _ _ c.if-seen-ge-COUNTED.true) c.unmoved-then-seen-ge-COUNTED.ensures)
 
 pub returns-in-Neither : goal.returns-in-Neither
 unfolding reported_move
 returns-in-Neither c =
     held-report _ _ _ c.if-here-run.false (value_of _ _ c.advice_at-here.ensures) c.move_kind.ensures (choice-of _ _ c.advice_at-here.ensures)
-    c.enum_told-1.given.1 c.unmoved-in-Neither.ensures
+    c.in-Neither.is c.unmoved-in-Neither.ensures
 
 pub returns-in-Meant : goal.returns-in-Meant
 unfolding reported_move
 returns-in-Meant c =
     held-report _ _ _ c.if-here-run.false (value_of _ _ c.advice_at-here.ensures) c.move_kind.ensures (choice-of _ _ c.advice_at-here.ensures)
-    c.enum_told-in-Meant-1.given.1 c.stand.ensures
+    c.in-Meant.is c.stand.ensures
 
 pub returns-else-seen-ge-COUNTED : goal.returns-else-seen-ge-COUNTED
 unfolding reported_move
 returns-else-seen-ge-COUNTED c =
     held-report _ _ _ c.if-here-run.false (value_of _ _ c.advice_at-here.ensures) c.move_kind.ensures (choice-of _ _ c.advice_at-here.ensures)
-    c.enum_told-in-Disturbance-1.given.1 (rw (lt-ltb _ _ c.if-seen-ge-COUNTED.false) c.stand-in-Disturbance.ensures)
+    c.in-Disturbance.is (rw (lt-ltb _ _ c.if-seen-ge-COUNTED.false) c.stand-in-Disturbance.ensures)

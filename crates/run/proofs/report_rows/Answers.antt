@@ -13,15 +13,15 @@ returns-then-n-to c =
 pub report_accepted-requires : goal.report_accepted-requires
 report_accepted-requires c =
     let pre = c.requires in
-    let form = accepted-form _ pre.0.1 c.check_plate.ensures c.enum_told-1.given.1 in
+    let form = accepted-form _ pre.0.1 c.check_plate.ensures c.in-Accepted.is in
     ((_, pre.0), pre.1, form, c.if-n-run.false, c.if-n-to.false)
 
 pub returns-in-Refused : goal.returns-in-Refused
 returns-in-Refused c =
     rw c.unmoved-in-Refused.ensures
-    (refused-report _ _ _ c.if-n-run.false c.if-n-to.false c.check_plate.ensures _ c.r-1.given.1)
+    (refused-report _ _ _ c.if-n-run.false c.if-n-to.false c.check_plate.ensures _ c.in-Refused.is)
 
 pub returns-in-Accepted : goal.returns-in-Accepted
 returns-in-Accepted c =
-    accepted-report _ _ _ c.if-n-run.false c.if-n-to.false c.check_plate.ensures c.enum_told-1.given.1
+    accepted-report _ _ _ c.if-n-run.false c.if-n-to.false c.check_plate.ensures c.in-Accepted.is
     c.report_accepted.ensures

@@ -11,14 +11,14 @@ returns-then-n-position c = rw c.off_chart.ensures (start_outside _ _ (omega (ar
 pub begin-requires : goal.begin-requires
 begin-requires c =
     let pre = c.requires in
-    (pre.0.1.few-positions, accepted-form _ pre.0.1 c.check_plate.ensures c.enum_told-1.given.1, omega (arith, c.if-n-position.false))
+    (pre.0.1.few-positions, accepted-form _ pre.0.1 c.check_plate.ensures c.in-Accepted.is, omega (arith, c.if-n-position.false))
 
 pub returns-in-Refused : goal.returns-in-Refused
 unfolding started_checked
 returns-in-Refused c =
-    start-inside _ _ c.if-n-position.false c.check_plate.ensures c.r-1.given.1 refl
+    start-inside _ _ c.if-n-position.false c.check_plate.ensures c.in-Refused.is refl
 
 pub returns-in-Accepted : goal.returns-in-Accepted
 unfolding started_checked
 returns-in-Accepted c =
-    start-inside _ _ c.if-n-position.false c.check_plate.ensures c.enum_told-1.given.1 c.begin.ensures
+    start-inside _ _ c.if-n-position.false c.check_plate.ensures c.in-Accepted.is c.begin.ensures

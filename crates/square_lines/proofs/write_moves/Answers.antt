@@ -40,7 +40,7 @@ overflow_add-at c = let fits : let a = c.args in c.loop-v.at + count_below (cell
 
 pub slice_bounds-write_targets-count-in-loop-v : goal.slice_bounds-write_targets-count-in-loop-v
 slice_bounds-write_targets-count-in-loop-v c = let fits : let a = c.args in c.loop-v.at + count_below (cell a.t2 c.loop-v.v) a.n * 12 + count_below (cell a.t3 c.loop-v.v) a.n * 12 ≤ length a.lines.now = rows_fit c.args.n c.args.t2 c.args.t3 c.args.lines.now c.loop-v.v c.loop-v.at c.loop-v.lines c.loop-v.invariant.2 c.loop-v-test.true c.requires.1 in
-    let between : List ℕ = behind c.loop-v.at c.loop-v.lines c.write_targets-at.new.1.1.1.1.0 in
+    let between : List ℕ = behind c.loop-v.at c.loop-v.lines c.write_targets-at.new.lines in
     let half : let a = c.args in Written (joined (move_lines a.n a.t2 a.t3) c.loop-v.v ++ target_lines 77 c.loop-v.v (cell a.t2 c.loop-v.v) a.n) (c.loop-v.at + c.write_targets-at.result) a.lines.now (between) = moves-half c.args.n c.args.t2 c.args.t3 c.args.lines.now c.loop-v.v c.loop-v.at c.loop-v.lines c.loop-v.inv.2 c.loop-v-test.true c.requires.1
     _ c.write_targets-at.result c.write_targets-at.ensures in
     let same : length (between) ≡ length c.args.lines.now = written-length _ _ c.args.lines.now (between) (half) (omega (arith, fits, c.write_targets-at.ensures.bytes)) in
@@ -57,7 +57,7 @@ part-write-targets-end-2 c = omega (arith, fits c.before.before.before.before.be
 pub write_targets-at-requires-in-loop-v : goal.write_targets-at-requires-in-loop-v
 write_targets-at-requires-in-loop-v c =
     let fits : let a = c.args in c.loop-v.at + count_below (cell a.t2 c.loop-v.v) a.n * 12 + count_below (cell a.t3 c.loop-v.v) a.n * 12 ≤ length a.lines.now = rows_fit c.args.n c.args.t2 c.args.t3 c.args.lines.now c.loop-v.v c.loop-v.at c.loop-v.lines c.loop-v.invariant.2 c.loop-v-test.true c.requires.1 in
-    let between : List ℕ = behind c.loop-v.at c.loop-v.lines c.write_targets-at.new.1.1.1.1.0 in
+    let between : List ℕ = behind c.loop-v.at c.loop-v.lines c.write_targets-at.new.lines in
     let half : let a = c.args in Written (joined (move_lines a.n a.t2 a.t3) c.loop-v.v ++ target_lines 77 c.loop-v.v (cell a.t2 c.loop-v.v) a.n) (c.loop-v.at + c.write_targets-at.result) a.lines.now (between) = moves-half c.args.n c.args.t2 c.args.t3 c.args.lines.now c.loop-v.v c.loop-v.at c.loop-v.lines c.loop-v.inv.2 c.loop-v-test.true c.requires.1
     _ c.write_targets-at.result c.write_targets-at.ensures in
     let same : length (between) ≡ length c.args.lines.now = written-length _ _ c.args.lines.now (between) (half) (omega (arith, fits, c.write_targets-at.ensures.bytes)) in
@@ -73,7 +73,7 @@ overflow_add-at-in-loop-v c = let fits : let a = c.args in c.loop-v.at + count_b
 pub loop-v-preserved : goal.loop-v-preserved
 loop-v-preserved c =
     let fits : let a = c.args in c.loop-v.at + count_below (cell a.t2 c.loop-v.v) a.n * 12 + count_below (cell a.t3 c.loop-v.v) a.n * 12 ≤ length a.lines.now = rows_fit c.args.n c.args.t2 c.args.t3 c.args.lines.now c.loop-v.v c.loop-v.at c.loop-v.lines c.loop-v.invariant.2 c.loop-v-test.true c.requires.1 in
-    let between : List ℕ = behind c.loop-v.at c.loop-v.lines c.write_targets-at.new.1.1.1.1.0 in
+    let between : List ℕ = behind c.loop-v.at c.loop-v.lines c.write_targets-at.new.lines in
     let half : let a = c.args in Written (joined (move_lines a.n a.t2 a.t3) c.loop-v.v ++ target_lines 77 c.loop-v.v (cell a.t2 c.loop-v.v) a.n) (c.loop-v.at + c.write_targets-at.result) a.lines.now (between) = moves-half c.args.n c.args.t2 c.args.t3 c.args.lines.now c.loop-v.v c.loop-v.at c.loop-v.lines c.loop-v.inv.2 c.loop-v-test.true c.requires.1
     _ c.write_targets-at.result c.write_targets-at.ensures in
     let room = fits in

@@ -6,11 +6,11 @@ use Rattle.squares.proofs.chart_count.Goals as goal
 
 pub returns-in-1 : goal.returns-in-1
 unfolding chart_count digits console_digits
-returns-in-1 c = rw c.in-1.keys1
+returns-in-1 c = rw c.in-1.is
 
 pub returns-in-2 : goal.returns-in-2
 unfolding chart_count digits console_digits
-returns-in-2 c = rw c.in-2.keys2
+returns-in-2 c = rw c.in-2.is
 
 pub returns-in_default : goal.returns-in_default
 unfolding chart_count digits console_digits

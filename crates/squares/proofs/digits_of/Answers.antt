@@ -35,11 +35,11 @@ rem-t10 c = positive c.before
 
 pub returns-in-1 : goal.returns-in-1
 returns-in-1 c = let base : c.digit_count-base.result ≡ digits (2 ^ c.args.n) = c.digit_count-base.ensures ∙ ap digits c.sets.ensures in
-    rw (← base, c.in-1.keys1) (one-digit _ _)
+    rw (← base, c.in-1.is) (one-digit _ _)
 
 pub returns-in-2 : goal.returns-in-2
 returns-in-2 c = let base : c.digit_count-base.result ≡ digits (2 ^ c.args.n) = c.digit_count-base.ensures ∙ ap digits c.sets.ensures in
-    rw (← base, c.in-2.keys2) (two_digits _ _)
+    rw (← base, c.in-2.is) (two_digits _ _)
 
 pub returns-in_default : goal.returns-in_default
 returns-in_default c = let base : c.digit_count-base.result ≡ digits (2 ^ c.args.n) = c.digit_count-base.ensures ∙ ap digits c.sets.ensures in

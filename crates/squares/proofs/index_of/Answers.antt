@@ -23,7 +23,7 @@ loop-v-init c = (omega arith, refl)
 
 pub overflow_mul-index : goal.overflow_mul-index
 overflow_mul-index c =
-    let byte : get_or c.args.marks.now v 0 < 256 = λ v. omega (arith, c.shared_slice_known-2-1.given v) in
+    let byte : (v : ℕ) → get_or c.args.marks.now v 0 < 256 = λ v. omega (arith, c.shared_slice_known-2-1.given v) in
     let a = c.args in
     let small = held-product a.n a.owners.now a.marks.now a.t4 a.t5 c.requires.0 (byte) c.loop-v.v (omega arith) c.loop-v.invariant.1 c.sets-t.ensures c.digit_count-base.ensures in
     omega arith
@@ -39,7 +39,7 @@ digit_of-requires c =
 
 pub overflow_add-index : goal.overflow_add-index
 overflow_add-index c = let number : ℕ → ℕ = let a = c.args in held_below a.n a.owners.now a.marks.now a.t4 a.t5 in
-    let byte : get_or c.args.marks.now v 0 < 256 = λ v. omega (arith, c.shared_slice_known-2-1.given v) in
+    let byte : (v : ℕ) → get_or c.args.marks.now v 0 < 256 = λ v. omega (arith, c.shared_slice_known-2-1.given v) in
     let small : c.loop-v.v < 3 → number (c.loop-v.v + 1) < 16384 ^ 3 = λ l. let a = c.args in held-bound a.n a.owners.now a.marks.now a.t4 a.t5 c.requires.0 (byte) (c.loop-v.v + 1) (omega arith) in
     let grown : c.loop-v.index * c.digit_count-base.result + c.digit_of.result ≡ number (c.loop-v.v + 1) = let a = c.args in
     held_next a.n a.owners.now a.marks.now a.t4 a.t5 c.loop-v.v c.loop-v.inv.1 c.sets-t.ensures c.digit_count-base.ensures

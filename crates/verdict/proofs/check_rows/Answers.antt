@@ -18,14 +18,14 @@ first_fault-requires c =
 pub header_fault-requires : goal.header_fault-requires
 header_fault-requires c =
     let pre = c.requires in
-    (pre.0.1.few-positions, pre.3, pre.5, sound-fits _ _ _ pre.2 (sym c.enum_told-1.given.1 ∙ c.first_fault.ensures))
+    (pre.0.1.few-positions, pre.3, pre.5, sound-fits _ _ _ pre.2 (sym c.in-Sound.is ∙ c.first_fault.ensures))
 
 pub returns-in-Fault : goal.returns-in-Fault
 returns-in-Fault c =
     let pre = c.requires in
-    fault-checked _ _ _ pre.2 _ _ _ (sym c.v-1.given.1 ∙ c.first_fault.ensures)
+    fault-checked _ _ _ pre.2 _ _ _ (sym c.in-Fault.is ∙ c.first_fault.ensures)
 
 pub returns-in-Sound : goal.returns-in-Sound
 returns-in-Sound c =
     let pre = c.requires in
-    header-checked _ _ _ pre.2 _ _ (sym c.enum_told-1.given.1 ∙ c.first_fault.ensures) c.header_fault.ensures
+    header-checked _ _ _ pre.2 _ _ (sym c.in-Sound.is ∙ c.first_fault.ensures) c.header_fault.ensures

@@ -1,10 +1,11 @@
 -- `first_fault` meets its contract. Between positions, those below v have no fault and the first i moves are theirs; between
 -- moves of v, its moves among the first i were seen. Each way out has a law: a test before the moves fails, a breach of 4 at
 -- L, a test after the moves fails, or no position is left.
-use Prim.Native.Nat.{◌-◌}
+use Prim.Native.Nat.{◌-◌, ◌≤◌}
+use lib.ListN.{get_or}
 use native.Mathlib.Omega.{arith}
 use mathlib.Core.Path.{◌≡◌, refl, sym, ap, ◌∙◌}
-use mathlib.Core.Logic.{⊎_elim, inl, inr}
+use mathlib.Core.Logic.{◌⊎◌, inl, inr}
 use mathlib.Core.Bool.{Bool, true, false, not, ◌&&◌, true≢false}
 use Rattle.conditions.specs.Position.{after_moves, before_moves, is_controller}
 use Rattle.verdict.specs.Ranks.{ranked-target}
@@ -12,6 +13,7 @@ use Rattle.conditions.specs.declared.Line.{Line}
 use Rattle.verdict.specs.VerdictLaws.{first-fault, no-fault}
 use Rattle.verdict.specs.Walk.{walk_begins, position-begins, early-fault, move_seen, low-fault, moves-seen, position-walked}
 use Rattle.verdict.proofs.first_fault.Goals as goal
+use Rattle.verdict.proofs.first_fault.Goals.{else-loop-i-test, then-loop-i-test+then-froms-i}
 
 -- the breach that is answered at once, taken apart
 environment-low : (o low : Bool) → (not o && low) ≡ true → (o ≡ false) × (low ≡ true)
@@ -29,8 +31,8 @@ line_at-line-requires c =
 pub loop-i-init : goal.loop-i-init
 loop-i-init c =
     let at = c.positions.invariant in
-    let line = c.line_at_lem.ensures in
-    (at.1, line, rw c.none-seen.ensures (position-begins at.2 (sym (ap before_moves line) ∙ sym c-moves.ensures ∙ c.if-early-ne0.false)))
+    let line = c.line_at-line.ensures in
+    (at.1, line, rw c.none-seen.ensures (position-begins at.2 (sym (ap before_moves line) ∙ sym c.before_moves-early.ensures ∙ c.if-early-ne0.false)))
 
 pub offset_bounds-froms-i : goal.offset_bounds-froms-i
 offset_bounds-froms-i c = omega (arith, c)
@@ -57,7 +59,7 @@ loop-i-preserved c =
 pub positions-preserved : goal.positions-preserved
 positions-preserved c =
     let at = c.loop-i.invariant in
-    let over = ⊎_elim (λ w. inl w.left) (λ w. inr w.2.taken) c.loop-i-test.branch in
+    let over : (c.args.m ≤ c.loop-i.i) ⊎ ((get_or c.args.froms.now c.loop-i.i 0 ≡ c.positions.v) → ⊥) = (elim c.loop-i-test.branch [ else-loop-i-test w ↦ inl w.loop-i-test.false | then-loop-i-test+then-froms-i w ↦ inr w.if-froms-i.true ]) in
     let late = ap (λ (l : Line). after_moves l c.loop-i.seen) (sym at.1) ∙ sym c.after_moves-late.ensures in
     (omega (arith, c.if-n-v.false), at.0, position-walked at.2 c.requires.1 at.0 over (late ∙ c.if-late-ne0.false))
 
@@ -67,14 +69,14 @@ returns-then-n-v c = sym (no-fault _ _ _ (λ u l. c.positions.invariant.2.clean 
 pub returns-then-early-ne0 : goal.returns-then-early-ne0
 returns-then-early-ne0 c =
     let at = c.positions.invariant.2 in
-    let early = ap before_moves (sym c.line_at_lem.ensures) ∙ sym c-moves.ensures in
+    let early = ap before_moves (sym c.line_at-line.ensures) ∙ sym c.before_moves-early.ensures in
     sym (first-fault _ _ _ _ _ c.if-n-v.false at.clean (early-fault at (λ z. c.if-early-ne0.true (sym early ∙ z)) ∙ early) c.if-early-ne0.true)
 
 pub returns-then-line-seen : goal.returns-then-line-seen
 returns-then-line-seen c =
     let at = c.loop-i.invariant in
     let more = c.loop-i-test.true in
-    let breach = environment-low (is_controller c.line_at_lem.result) _ c.if-line-seen.true in
+    let breach = environment-low (is_controller c.line_at-line.result) _ c.if-line-seen.true in
     let seen = move_seen at.2 c.requires.1 more c.if-froms-i.false c.see-seen.ensures at.1 (c.target_at.ensures ∙ ranked-target c.args.costs.now c.args.tos.now c.loop-i.i c.requires.3 (c.requires.0.to_inside _ more)) in
     let low = low-fault seen (omega (arith, more)) (sym (ap is_controller at.1) ∙ breach.0) breach.1 in
     sym (first-fault _ _ _ _ _ c.if-n-v.false at.2.clean low (λ z. omega arith))
@@ -82,6 +84,6 @@ returns-then-line-seen c =
 pub returns-then-late-ne0 : goal.returns-then-late-ne0
 returns-then-late-ne0 c =
     let at = c.loop-i.invariant in
-    let over = ⊎_elim (λ w. inl w.left) (λ w. inr w.2.taken) c.loop-i-test.branch in
+    let over : (c.args.m ≤ c.loop-i.i) ⊎ ((get_or c.args.froms.now c.loop-i.i 0 ≡ c.positions.v) → ⊥) = (elim c.loop-i-test.branch [ else-loop-i-test w ↦ inl w.loop-i-test.false | then-loop-i-test+then-froms-i w ↦ inr w.if-froms-i.true ]) in
     let late = ap (λ (l : Line). after_moves l c.loop-i.seen) (sym at.1) ∙ sym c.after_moves-late.ensures in
     sym (first-fault _ _ _ _ _ c.if-n-v.false at.2.clean (moves-seen at.2 c.requires.1 at.0 over ∙ late) c.if-late-ne0.true)

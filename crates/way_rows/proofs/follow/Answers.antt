@@ -9,8 +9,7 @@ use Rattle.way_rows.proofs.follow.Goals as goal
 
 pub loop-i-init : goal.loop-i-init
 loop-i-init c =
-    let pre = c.requires in
-    (omega arith, refl, refl, following-none c.args.positions.now c.args.led.now pre.0.2 (omega (arith, pre)) (omega (arith, pre)))
+    (omega arith, refl, refl, following-none c.args.positions.now c.args.led.now c.requires.leads_on.2 (omega (arith, c.requires)) (omega (arith, c.requires)))
 
 pub overflow_cast-there : goal.overflow_cast-there
 overflow_cast-there c = let onward : ℕ = get_or c.args.next.now c.loop-i.here 0 in
@@ -42,11 +41,11 @@ pub loop-i-preserved : goal.loop-i-preserved
 loop-i-preserved c =
     let positions-length : length c.loop-i.positions ≡ length c.args.positions.now = c.loop-i.invariant.1 ∙ length-set c.args.positions.now 0 c.args.start in
     let led-length : length c.loop-i.led ≡ length c.args.led.now = c.loop-i.invariant.2 ∙ length-set c.args.led.now 0 0 in
-    let pre = c.requires in (
+    (
       omega arith,
       rw length-set c.loop-i.invariant.1,
       rw length-set c.loop-i.invariant.2,
-      following-next pre.0.0 c.loop-i.invariant.3 pre.0.3 c.loop-i-test.true (omega (arith, positions-length, pre)) (omega (arith, led-length, pre)),
+      following-next c.requires.leads_on.0 c.loop-i.invariant.3 c.requires.leads_on.3 c.loop-i-test.true (omega (arith, positions-length, c.requires)) (omega (arith, led-length, c.requires)),
     )
 
 pub shape_of-positions : goal.shape_of-positions

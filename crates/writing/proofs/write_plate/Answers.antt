@@ -11,23 +11,23 @@ use Rattle.writing.specs.WritingLaws.{written-refused, written-short, written-ta
 use Rattle.writing.proofs.write_plate.Goals as goal
 
 pub overflow_add-size : goal.overflow_add-size
-overflow_add-size c = omega (arith, (c.load.ensures.taken _ c.chart-1.given.1).rows.few-positions)
+overflow_add-size c = omega (arith, (c.load.ensures.taken _ c.in-Accepted.is).rows.few-positions)
 
 pub overflow_mul-size : goal.overflow_mul-size
-overflow_mul-size c = omega (arith, (c.load.ensures.taken _ c.chart-1.given.1).rows.few-positions)
+overflow_mul-size c = omega (arith, (c.load.ensures.taken _ c.in-Accepted.is).rows.few-positions)
 
 pub returns-then-out-size : goal.returns-then-out-size
-returns-then-out-size c = let accepted : examined c.args.text.now ≡ Accepted c.chart-1.given.0.0 = sym c.load.ensures.answer ∙ c.chart-1.given.1 in
+returns-then-out-size c = let accepted : examined c.args.text.now ≡ Accepted c.in-Accepted.chart = sym c.load.ensures.answer ∙ c.in-Accepted.is in
     written-short (accepted) (search cases)
 
 pub write_valued-requires : goal.write_valued-requires
 write_valued-requires c =
-    ((_, (c.load.ensures.taken _ c.chart-1.given.1).rows), c.if-out-size.false)
+    ((_, (c.load.ensures.taken _ c.in-Accepted.is).rows), c.if-out-size.false)
 
 pub returns-in-Refused : goal.returns-in-Refused
-returns-in-Refused c = written-refused (sym c.load.ensures.answer ∙ c.r-1.given.1)
+returns-in-Refused c = written-refused (sym c.load.ensures.answer ∙ c.in-Refused.is)
 
 pub returns-else-out-size : goal.returns-else-out-size
 returns-else-out-size c =
-    let accepted : examined c.args.text.now ≡ Accepted c.chart-1.given.0.0 = sym c.load.ensures.answer ∙ c.chart-1.given.1 in
-    written-taken (accepted) (le-leb _ _ c.if-out-size.false) (c.load.ensures.taken _ c.chart-1.given.1).rows c.write_valued.ensures
+    let accepted : examined c.args.text.now ≡ Accepted c.in-Accepted.chart = sym c.load.ensures.answer ∙ c.in-Accepted.is in
+    written-taken (accepted) (le-leb _ _ c.if-out-size.false) (c.load.ensures.taken _ c.in-Accepted.is).rows c.write_valued.ensures

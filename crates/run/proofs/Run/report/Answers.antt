@@ -8,14 +8,14 @@ use Rattle.run.proofs.Run.report.Goals as goal
 
 pub report_rows-requires : goal.report_rows-requires
 report_rows-requires c =
-    let accepted : examined c.args.text.now ≡ Accepted c.chart-1.given.0.0 = sym c.load.ensures.answer ∙ c.chart-1.given.1 in
-    let loaded = c.load.ensures.taken _ c.chart-1.given.1 in
+    let accepted : examined c.args.text.now ≡ Accepted c.in-Accepted.chart = sym c.load.ensures.answer ∙ c.in-Accepted.is in
+    let loaded = c.load.ensures.taken _ c.in-Accepted.is in
     ((_, loaded.rows), decoded-ascending _ _ (accepted) loaded.rows)
 
 pub returns-in-Refused : goal.returns-in-Refused
-returns-in-Refused c = c.unmoved.ensures ∙ report-refused _ _ _ _ _ (sym c.load.ensures.answer ∙ c.r-1.given.1)
+returns-in-Refused c = c.unmoved.ensures ∙ report-refused _ _ _ _ _ (sym c.load.ensures.answer ∙ c.in-Refused.is)
 
 pub returns-in-Accepted : goal.returns-in-Accepted
 returns-in-Accepted c =
-    let accepted : examined c.args.text.now ≡ Accepted c.chart-1.given.0.0 = sym c.load.ensures.answer ∙ c.chart-1.given.1 in
-    report-taken _ _ _ _ _ (accepted) (c.load.ensures.taken _ c.chart-1.given.1).rows c.report_rows.ensures
+    let accepted : examined c.args.text.now ≡ Accepted c.in-Accepted.chart = sym c.load.ensures.answer ∙ c.in-Accepted.is in
+    report-taken _ _ _ _ _ (accepted) (c.load.ensures.taken _ c.in-Accepted.is).rows c.report_rows.ensures
