@@ -14,15 +14,14 @@ overflow_add-first c =
     omega (arith, (moves-fit c.args.text.now c.args.chart c.requires.text_value).few.0)
 
 pub loop-i-init : goal.loop-i-init
-loop-i-init c =
-    (
-      omega arith,
-      omega arith,
-      omega arith,
-      omega arith,
-      moves-fit c.args.text.now c.args.chart c.requires.text_value,
-      record { cost = filled_none _ _; from = filled_none _ _; to = filled_none _ _ },
-    )
+loop-i-init c = (
+  omega arith,
+  omega arith,
+  omega arith,
+  omega arith,
+  moves-fit c.args.text.now c.args.chart c.requires.text_value,
+  record { cost = filled_none _ _; from = filled_none _ _; to = filled_none _ _ },
+)
 
 pub overflow_cast-froms : goal.overflow_cast-froms
 overflow_cast-froms c =
