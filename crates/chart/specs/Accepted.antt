@@ -8,7 +8,7 @@ use Rattle.std.proofs.Math.Bool.{true}
 use mathlib.Core.List.Memᴰ
 use mathlib.Core.List.{List, Memᴰ}
 use Rattle.std.proofs.Math.Dec.{T}
-use Rattle.game.specs.Members.{member-at, at-member}
+use Rattle.game.proofs.Members.{member-at, at-member}
 use Rattle.game.specs.Arena.{Arena, Position, Move, size, move_at, no_move, meant_move, disturbance_move, controller, environment, nobody, Meant, may_be_disturbed, has_meant, WellFormed}
 use Rattle.chart.specs.Text.{letter_at, positions_of, moves_of, from_at, to_at}
 use Rattle.chart.specs.Meaning.{owner_of, cost_of, position_on, move_on, arena_of, Rises, Chartable}

@@ -12,7 +12,7 @@ use mathlib.Core.List.{List, [], ◌∷◌}
 use Rattle.std.proofs.Math.ListN.{length, get_or, get_or-eq_default}
 use Rattle.std.proofs.Math.Dec.{leb}
 use borrow.Author.Tests.{leb-true, leb-false, eqb-true, eq-eqb, le-leb}
-use Rattle.search.specs.First.{first-same}
+use Rattle.search.proofs.FirstLaws.{first-same}
 use Rattle.field.specs.Text.{field_of, five, field_at, place_byte, blank_text, number_text}
 use Rattle.field.specs.Laws.{number-reads, blank-reads, blank-exact}
 use Rattle.field.specs.declared.Field.{Field}

@@ -9,7 +9,7 @@ use Rattle.std.proofs.Math.Path.{◌≡◌, refl, ap, subst}
 use Rattle.std.specs.Prelude.{◌⊎◌, ◌↔◌, Bool, true, false, cond, List, [], ◌∷◌, length, get_or, ltb, eqb}
 use Rattle.std.proofs.Math.Logic.{⊎_elim}
 use Rattle.std.proofs.lemmas.Bool.{eqb-false}
-use Rattle.search.specs.First.{first-answered}
+use Rattle.search.proofs.FirstLaws.{first-answered}
 use Rattle.chart.specs.Text.{letter_at, positions_of, moves_of, from_at}
 use Rattle.refusal.specs.Numbers.{misdrawn_line}
 use Rattle.chart.specs.Refusals.{stage, rank, PositionLine, BadLength, BadForm, OutOfSequence, BadEndpoint, BadDisturbance, MeantAtRest, OutOfOrder, WithoutMeant, Applies, Before, First}

@@ -20,7 +20,7 @@ use Rattle.chart.specs.Text.{letter_at, first_at, second_at, mark_of, mark_at, f
 use Rattle.chart.specs.Meaning.{owner_of, owner_letter, cost_of, cost_letter, position_on, move_on, arena_of, chart_line, position_text, move_text, chart_text, Rises, Chartable}
 use Rattle.chart.specs.Examined.{examined}
 use Rattle.chart.specs.Good.{GoodChart, accepted-good}
-use Rattle.game.specs.Members.{member-at, at-member}
+use Rattle.game.proofs.Members.{member-at, at-member}
 use Rattle.line.specs.Joined.{joined, on_lines}
 use Rattle.line.specs.JoinedLaws.{joined-stands, on-lines-list}
 use Rattle.chart.specs.Arenas.{arena-size, arena-moves, arena-position, arena-move}

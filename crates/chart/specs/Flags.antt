@@ -4,7 +4,7 @@ use Rattle.std.proofs.Common.{arith, add-one, sym, ap, ◌∙◌, subst, get_or-
 use Rattle.std.proofs.lemmas.Bool.{eqb-false}
 use Rattle.chart.specs.Text.{letter_at}
 use Rattle.chart.specs.Examined.{meant_line, is_clean, first_fault, meant_in, missing_at, unflagged_at}
-use Rattle.search.specs.First.{first-same}
+use Rattle.search.proofs.FirstLaws.{first-same}
 use Rattle.refusal.specs.declared.Misdrawn.TheVariants.{NoMeant}
 use Rattle.chart.specs.declared.Finding.TheVariants.{Clean, Fault}
 

@@ -6,7 +6,7 @@ use Rattle.std.proofs.Math.Path.{refl}
 use Rattle.std.proofs.Math.Bool.{true, false}
 use Rattle.std.proofs.Math.Dec.{leb}
 use borrow.Author.Tests.{ltb-false, leb-false, eqb-true, eqb-false, eq-eqb, ne_eqb, le-leb, lt-leb}
-use Rattle.search.specs.First.{first_ended}
+use Rattle.search.proofs.FirstLaws.{first_ended}
 use Rattle.field.specs.declared.Field.{Field}
 use Rattle.field.specs.declared.Field.TheVariants.{Number, Blank, Bad}
 use Rattle.chart.specs.Text.{letter_at, first_at, second_at, end_at, mark_at, field_number, is_number, positions_of, moves_of, from_at, to_at}

@@ -10,7 +10,7 @@ use Rattle.line.specs.Joined.{joined}
 use Rattle.line.specs.LineLaws.{line-length}
 use Rattle.line.specs.JoinedLaws.{joined_length, joined-part}
 use Rattle.game.specs.Arena.{Arena, Position, Move, size, owner_at, position_at, move_at, no_move}
-use Rattle.game.specs.Members.{at-member}
+use Rattle.game.proofs.Members.{at-member}
 use Rattle.chart.specs.Meaning.{owner_letter, cost_letter, chart_line, position_text, move_text, chart_text, Chartable}
 use Rattle.chart.specs.Lines.{Reads, bytes_read}
 

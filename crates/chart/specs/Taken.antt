@@ -6,7 +6,7 @@ use Rattle.std.proofs.Math.Path.{refl, ap}
 use Rattle.std.proofs.Math.Bool.{true, false}
 use Rattle.std.proofs.Math.Dec.{eqb}
 use borrow.Author.Tests.{eq-eqb, ne_eqb, le-ltb, lt-leb, leb-true, leb-false, eqb-true, eqb-false}
-use Rattle.search.specs.First.{first-none}
+use Rattle.search.proofs.FirstLaws.{first-none}
 use Rattle.field.specs.declared.Field.{Field}
 use Rattle.field.specs.declared.Field.TheVariants.{Number}
 use Rattle.chart.specs.Text.{letter_at, first_at, second_at, end_at, mark_at, field_number, is_number, positions_of, moves_of, from_at, to_at}

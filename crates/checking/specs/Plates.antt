@@ -8,12 +8,12 @@ use Rattle.rows.specs.NumberLaws.{Fits, value-of-number}
 use Rattle.game.specs.Value.{Value, fin, ever}
 use Rattle.game.specs.Arena.{Arena, WellFormed, owner_at, size}
 use Rattle.game.specs.FirstLine.{highest}
-use Rattle.game.specs.FirstLineLaws.{pairs-within-size, evers-within-size}
+use Rattle.game.proofs.FirstLineLaws.{pairs-within-size, evers-within-size}
 use Rattle.game.specs.Table.{round_value, round_step}
-use Rattle.game.specs.RoundBounds.{round-value-within-size, round-step-within-size, highest-within-size}
+use Rattle.game.proofs.RoundBounds.{round-value-within-size, round-step-within-size, highest-within-size}
 use Rattle.game.specs.Best.{best_at}
-use Rattle.game.specs.BestLaws.{best-is-legal}
-use Rattle.game.specs.RoundValues.{round-choices-are-worth-the-values, rounds-give-the-values, the-value-is-the-rounds}
+use Rattle.game.proofs.BestLaws.{best-is-legal}
+use Rattle.game.proofs.RoundValues.{round-choices-are-worth-the-values, rounds-give-the-values, the-value-is-the-rounds}
 use Rattle.chart.specs.Meaning.{arena_of}
 use Rattle.chart.specs.Examined.{examined}
 use Rattle.chart.specs.Accepted.{accepted-chartable, accepted-size}

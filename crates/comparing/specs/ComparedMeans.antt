@@ -6,14 +6,15 @@ use Rattle.std.proofs.Common.{arith, sym, ap, subst, ◌∙◌, inl, inr, ⊎_el
 use Rattle.std.proofs.lemmas.Bool.{eqb-false}
 use Rattle.rows.specs.Numbers.{value_of, number_of, row_value}
 use Rattle.rows.specs.NumberLaws.{number-of-value, value-of-number}
-use Rattle.search.specs.First.{FirstAt, AllPass, first-none, first-at, first_or_none}
+use Rattle.search.specs.First.{FirstAt, AllPass}
+use Rattle.search.proofs.FirstLaws.{first-none, first-at, first_or_none}
 use Rattle.game.specs.Value.{Value}
-use Rattle.game.specs.ValueLaws.{≼-split}
+use Rattle.game.proofs.ValueLaws.{≼-split}
 use Rattle.game.specs.Arena.{Arena, WellFormed, size}
 use Rattle.game.specs.Play.{Controller, Legal, positional}
 use Rattle.game.specs.Worth.{WorthIs, IsValue}
-use Rattle.game.specs.Bounds.{value-is-bounds}
-use Rattle.game.specs.Unique.{value-is-greatest, worth-at-most-value}
+use Rattle.game.proofs.Bounds.{value-is-bounds}
+use Rattle.game.proofs.Unique.{value-is-greatest, worth-at-most-value}
 use Rattle.game.specs.Restrict.{restricted}
 use Rattle.game.specs.Table.{round_value}
 use Rattle.refusal.specs.declared.Refusal.{Refusal}

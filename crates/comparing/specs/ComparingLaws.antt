@@ -8,7 +8,7 @@ use Rattle.game.specs.Arena.{Arena}
 use Rattle.weighing.specs.Weighing.{RowsWeighed}
 use Rattle.checking.specs.Checking.{FormedIs}
 use Rattle.comparing.specs.Comparing.{value_number, worth_number, first_difference, FormedCompared, compared_verdict, compared_formed}
-use Rattle.search.specs.First.{first-same}
+use Rattle.search.proofs.FirstLaws.{first-same}
 use Rattle.refusal.specs.declared.Refusal.TheVariants.{Choice, Fault}
 use Rattle.verdict.specs.declared.Verdict.{Verdict}
 use Rattle.verdict.specs.declared.Verdict.TheVariants.{Sound, Fault as FaultAt}

@@ -9,7 +9,7 @@ use Rattle.rows.specs.declared.FirstLine.{FirstLine}
 use Rattle.game.specs.Value.{Value}
 use Rattle.game.specs.Arena.{size}
 use Rattle.game.specs.Worth.{IsValue}
-use Rattle.game.specs.Unique.{value-is-unique}
+use Rattle.game.proofs.Unique.{value-is-unique}
 use Rattle.chart.specs.Meaning.{arena_of}
 use Rattle.plate.specs.Read.{value_in_plate}
 use Rattle.plate.specs.Text.{plate_text}

@@ -8,7 +8,7 @@ use Rattle.game.specs.Value.{Value}
 use Rattle.game.specs.Arena.{Arena, controller, size, owner_at}
 use Rattle.game.specs.Play.{Trail, Controller, Play, Legal, last, target_of, positional}
 use Rattle.game.specs.Worth.{WorthIs, IsValue}
-use Rattle.game.specs.Optimal.{Unsurpassed}
+use Rattle.game.proofs.Optimal.{Unsurpassed}
 use Rattle.game.specs.Good.{Good}
 use Rattle.chart.specs.Meaning.{arena_of}
 use Rattle.chart.specs.Lines.{Reads}

@@ -3,7 +3,7 @@
 use Rattle.std.specs.Prelude.{ℕ, ◌<◌, refl, List}
 use Rattle.game.specs.Arena.{size}
 use Rattle.game.specs.Journal.{ResilienceIs, ordinal_of}
-use Rattle.game.specs.Resilience.{value-is-resilience}
+use Rattle.game.proofs.Resilience.{value-is-resilience}
 use Rattle.chart.specs.Meaning.{arena_of}
 use Rattle.chart.specs.Accepted.{accepted-chartable}
 use Rattle.plate.specs.Read.{value_in_plate}

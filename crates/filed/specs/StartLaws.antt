@@ -10,7 +10,7 @@ use Rattle.std.proofs.Math.Dec.{T, eqb}
 use Rattle.search.specs.Below.{count_below}
 use Rattle.search.specs.Counting.{count_none, count_past}
 use Rattle.game.specs.Arena.{Arena, Move, Owner, controller, environment, nobody, meant_move, has_meant, owner_at, move_at, no_move}
-use Rattle.game.specs.Members.{member-at, at-member}
+use Rattle.game.proofs.Members.{member-at, at-member}
 use Rattle.rows.specs.Rows.{RowIs, RowsOf, owner_number}
 use Rattle.rows.specs.RowsLaws.{rows-within}
 use Rattle.rows.specs.Numbers.{number_at, free}

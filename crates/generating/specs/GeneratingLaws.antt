@@ -23,9 +23,9 @@ use Rattle.chart.specs.Meaning.{owner_letter, chart_line, position_text, chart_t
 use Rattle.chart.specs.SetOut.{set_out}
 use Rattle.numbering.specs.Numbering.{digits, chart_count}
 use Rattle.numbering.specs.Squares.{Squares, owner_by, position_of, moves_to, moves_from, moves_of, digit_of, lane_in, mark_in, meant_in, disturbances_in, in_set, squares_of, square_arena, small_arena, target_lines}
-use Rattle.numbering.specs.SquareLaws.{row-length}
-use Rattle.numbering.specs.EverySmall.{chart-of-index}
-use Rattle.numbering.specs.TextLaws.{row_lines, square-text}
+use Rattle.numbering.proofs.SquareLaws.{row-length}
+use Rattle.numbering.proofs.EverySmall.{chart-of-index}
+use Rattle.numbering.proofs.TextLaws.{row_lines, square-text}
 use Rattle.squares.specs.Held.{SquareIs, cell}
 use Rattle.square_lines.specs.Lines.{owner_byte, owner_line, move_lines, moves_count}
 use Rattle.square_lines.specs.LinesLaws.{moves-bound, behind}

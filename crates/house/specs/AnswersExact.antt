@@ -6,7 +6,8 @@ use Rattle.std.proofs.Math.Path.{refl, ap, subst}
 use Rattle.std.proofs.Math.Logic.{inr, ⊎_elim}
 use Rattle.std.proofs.lemmas.Bool.{eqb-false}
 use Rattle.search.specs.Below.{count_below}
-use Rattle.search.specs.First.{AllPass, FirstAt, first_or_none, first-none, first-at}
+use Rattle.search.specs.First.{AllPass, FirstAt}
+use Rattle.search.proofs.FirstLaws.{first_or_none, first-none, first-at}
 use Rattle.refusal.specs.declared.Refusal.{Refusal}
 use Rattle.refusal.specs.declared.Refusal.TheVariants.{Lanes, Chart as OfChart, NotSmall, Short, Plate, Choice, Position, Ever, Fault, Held, Move, Seen}
 use Rattle.checking.specs.Answers.{AcceptedIs, RefusedIs}

@@ -8,7 +8,8 @@ use Rattle.std.proofs.Math.ListN.{get_or-eq_default}
 use Rattle.std.proofs.Math.Seq.{get_or-set_other}
 use Rattle.std.proofs.lemmas.List.{set-get_or}
 use Rattle.search.specs.Below.{count_below, count-bound, count_next}
-use Rattle.search.specs.First.{first_from, first_next, first-stop, first_done}
+use Rattle.search.specs.First.{first_from}
+use Rattle.search.proofs.FirstLaws.{first_next, first-stop, first_done}
 use Rattle.rows.specs.Rows.{RowsOf}
 use Rattle.game.specs.Arena.{Arena}
 use Rattle.refusal.specs.declared.Refusal.{Refusal}

@@ -10,7 +10,7 @@ use Rattle.std.specs.Prelude.{Bool, List, length, set}
 use Rattle.std.proofs.Math.Bool.{true, false, cond}
 use Rattle.std.proofs.Math.ListN.{get_or}
 use Rattle.std.proofs.Math.Seq.{get_or-set_other}
-use Rattle.search.specs.First.{first-same}
+use Rattle.search.proofs.FirstLaws.{first-same}
 use Rattle.refusal.specs.declared.Refusal.TheVariants.{Lanes}
 use Rattle.checking.specs.Checking.{checked}
 use Rattle.checking.specs.declared.Checked.{Checked}

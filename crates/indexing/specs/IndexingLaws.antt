@@ -10,7 +10,7 @@ use Rattle.std.proofs.lemmas.Bool.{lt-leb}
 use Rattle.search.specs.Below.{some_below, some_same, some-hit, some-none}
 use Rattle.game.specs.Arena.{Arena, Owner, controller, environment, nobody, size, owner_at, position_at, move_at, disturbance_move, has_meant}
 use Rattle.game.specs.Table.{some_move}
-use Rattle.game.specs.MoveTests.{is_true, is_false}
+use Rattle.game.proofs.MoveTests.{is_true, is_false}
 use Rattle.rows.specs.Rows.{owner_number, RowsOf, Within}
 use Rattle.rows.specs.RowsLaws.{some-lines}
 use Rattle.rows.specs.declared.Chart.{Chart}
@@ -20,9 +20,9 @@ use Rattle.chart.specs.declared.Examination.TheVariants.{Accepted, Refused}
 use Rattle.refusal.specs.declared.Misdrawn.{Misdrawn}
 use Rattle.refusal.specs.declared.Refusal.TheVariants.{Chart as OfChart, NotSmall}
 use Rattle.numbering.specs.Numbering.{set_number, digit, digits, numeral, is_lane, is_move, joins, digit_at, index_of, Small}
-use Rattle.numbering.specs.SetLaws.{set_same, set-stays, set-some}
-use Rattle.numbering.specs.DigitLaws.{numeral-same}
-use Rattle.numbering.specs.ArenaLaws.{joins-exactly}
+use Rattle.numbering.proofs.SetLaws.{set_same, set-stays, set-some}
+use Rattle.numbering.proofs.DigitLaws.{numeral-same}
+use Rattle.numbering.proofs.ArenaLaws.{joins-exactly}
 use Rattle.squares.specs.Held.{SquareIs, SomeInEach, cell, held_digit, held_index, joined_below}
 use Rattle.indexing.specs.Indexing.{is_rest, is_small, indexed_arena, indexed_by, indexed, rests_below, RowsIndexed}
 use Rattle.indexing.specs.declared.Indexed.{Indexed}

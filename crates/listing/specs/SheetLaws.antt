@@ -10,12 +10,12 @@ use Rattle.line.specs.Joined.{joined}
 use Rattle.line.specs.JoinedLaws.{joined-front, joined_length, joined-part}
 use Rattle.game.specs.Arena.{Arena, Move, WellFormed, size, no_move, meant_move}
 use Rattle.game.specs.Play.{controller-inside}
-use Rattle.game.specs.PlayLaws.{meant-inside}
-use Rattle.game.specs.Members.{member-at, at-member}
+use Rattle.game.proofs.PlayLaws.{meant-inside}
+use Rattle.game.proofs.Members.{member-at, at-member}
 use Rattle.game.specs.Keep.{keep, kept, passed}
 use Rattle.game.specs.Good.{Good, GoodMove}
 use Rattle.game.specs.GoodMoves.{good_move, good_moves}
-use Rattle.game.specs.GoodLaws.{good-exactly}
+use Rattle.game.proofs.GoodLaws.{good-exactly}
 use Rattle.chart.specs.Lines.{Reads, bytes_read}
 use Rattle.listing.specs.Sheet.{good_line, Lists, SheetOf}
 use Rattle.listing.specs.Listing.{good_count, good_sheet}

@@ -11,11 +11,11 @@ use Rattle.rows.specs.Numbers.{number_at}
 use Rattle.rows.specs.NumberLaws.{choice-number}
 use Rattle.rows.specs.Notes.{found}
 use Rattle.game.specs.Value.{Value, fin, value_eq}
-use Rattle.game.specs.ValueLaws.{value_eq-sound}
+use Rattle.game.proofs.ValueLaws.{value_eq-sound}
 use Rattle.game.specs.Arena.{Arena, Owner, controller, environment, nobody, owner_at, move_at, Meant, Disturbance}
 use Rattle.game.specs.Play.{Allows, target_of}
 use Rattle.game.specs.Table.{meant_from, disturbance_from}
-use Rattle.game.specs.MoveTests.{and-test, of-disturbance, of-meant, some-meant, some-disturbance}
+use Rattle.game.proofs.MoveTests.{and-test, of-disturbance, of-meant, some-meant, some-disturbance}
 use Rattle.moves.specs.Moves.{is_meant, is_disturbance, kind_as, move_kind, KindSays, leads_to, KindIs}
 use Rattle.moves.specs.declared.Kind.{Kind}
 use Rattle.moves.specs.declared.Kind.TheVariants.{Meant as Chosen, Disturbance as Disturbed, Neither}

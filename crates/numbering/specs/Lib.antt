@@ -4,12 +4,3 @@ pub mod Order
 -- Laws that callers cite: EverySmall (each small chart has one index), OrderLaws (indices rise in that order), Squares and TextLaws (the chart of
 -- an index, and its lines). The others lead to them.
 pub mod Squares
-pub mod SetLaws
-pub mod NumeralLaws
-pub mod DigitLaws
-pub mod MoveLists
-pub mod SquareLaws
-pub mod ArenaLaws
-pub mod EverySmall
-pub mod OrderLaws
-pub mod TextLaws

@@ -4,7 +4,8 @@ use Rattle.std.specs.Prelude.{ℕ, zero, suc, ◌+◌, ◌*◌, ◌≤◌, ◌<�
 use Rattle.std.proofs.Common.{arith, add-one, sym, ap, ◌∙◌, subst, eqb-true, ltb-true, eq-eqb, lt-ltb}
 use Rattle.std.proofs.Math.Decide.{dec_lt}
 use Rattle.std.proofs.lemmas.Bool.{eqb-false}
-use Rattle.search.specs.First.{FirstAt, first_ended, first-answered}
+use Rattle.search.specs.First.{FirstAt}
+use Rattle.search.proofs.FirstLaws.{first_ended, first-answered}
 use Rattle.field.specs.Text.{five, blank_text}
 use Rattle.line.specs.Text.{entry_at, line_letter, line_end, line_field, framed}
 use Rattle.line.specs.Entries.{blank-is-bad}

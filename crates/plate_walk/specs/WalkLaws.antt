@@ -7,7 +7,7 @@ use Rattle.std.proofs.Math.Logic.{inl, inr, ⊎_elim}
 use Rattle.std.proofs.Math.Bool.{true, false, cond}
 use Rattle.std.proofs.Math.Dec.{eqb, leb}
 use borrow.Author.Tests.{eq-eqb, eqb-true, ltb-true, lt-ltb, leb-false}
-use Rattle.search.specs.First.{first-none}
+use Rattle.search.proofs.FirstLaws.{first-none}
 use Rattle.field.specs.Text.{five, field_at}
 use Rattle.line.specs.Text.{entry_at, entry_of, entry_text, or_word, dash_text, ever_text, framed}
 use Rattle.line.specs.Entries.{Writable, written-entry-reads}

@@ -13,8 +13,8 @@ use Rattle.rows.specs.Notes.{Noted, found}
 use Rattle.search.specs.Below.{count-zero, bit, bit-one}
 use Rattle.game.specs.Arena.{Arena, Move, Owner, controller, environment, nobody, owner_at, move_at}
 use Rattle.game.specs.Table.{Table, Placement, unplaced, placed, placement_at, is_placed, has_value, placed_value, placed_step, place, some_move, meant_from, disturbance_from, ready, ready_as, begins}
-use Rattle.game.specs.MoveTests.{none-at-rest}
-use Rattle.game.specs.TableLaws.{Takes, place_at, place-length}
+use Rattle.game.proofs.MoveTests.{none-at-rest}
+use Rattle.game.proofs.TableLaws.{Takes, place_at, place-length}
 use Rattle.round.specs.Round.{taken, Placing, decides, disturbs, ready_flag}
 use Rattle.round.specs.Held.{Holds, Flags}
 

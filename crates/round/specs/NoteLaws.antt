@@ -4,7 +4,7 @@ use Rattle.std.specs.Prelude.{ℕ, ◌<◌, ◌≡◌, refl, Bool, cond, not, Li
 use Rattle.std.proofs.Common.{◌∙◌}
 use Rattle.std.proofs.Math.Bool.{true, false}
 use Rattle.search.specs.Below.{bit}
-use Rattle.game.specs.MoveTests.{of-disturbance, of-meant}
+use Rattle.game.proofs.MoveTests.{of-disturbance, of-meant}
 use Rattle.rows.specs.Rows.{RowIs, Within}
 use Rattle.rows.specs.Numbers.{number_at, free}
 use Rattle.rows.specs.Notes.{Noted, found, found-same}

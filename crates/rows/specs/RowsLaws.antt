@@ -9,7 +9,7 @@ use Rattle.search.specs.Below.{some_below, some-front}
 use Rattle.game.specs.Arena.{Arena, Move, Owner, controller, environment, nobody, owner_at, move_at, no_move}
 use Rattle.game.specs.Restrict.{is_controller}
 use Rattle.game.specs.Table.{some_move}
-use Rattle.game.specs.Members.{at-member}
+use Rattle.game.proofs.Members.{at-member}
 use Rattle.rows.specs.Numbers.{number_at}
 use Rattle.rows.specs.Rows.{owner_number, RowsOf, Within}
 use Rattle.rows.specs.Notes.{found}

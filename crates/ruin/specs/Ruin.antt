@@ -11,7 +11,7 @@ use Rattle.game.specs.Restrict.{restricted}
 use Rattle.game.specs.Table.{round_value}
 use Rattle.way.specs.Way.{moves, WayToRuin}
 use Rattle.way.specs.Tight.{moves_left, way_after}
-use Rattle.way.specs.WayLaws.{Leading}
+use Rattle.way.proofs.WayLaws.{Leading}
 use Rattle.sheet_lines.specs.Lines.{pair_lines}
 use Rattle.chart.specs.Meaning.{arena_of}
 use Rattle.chart.specs.Examined.{examined}

@@ -14,14 +14,14 @@ use Rattle.rows.specs.NumberLaws.{value-of-number}
 use Rattle.rows.specs.Notes.{Noted}
 use Rattle.rows.specs.declared.Chart.{Chart}
 use Rattle.game.specs.Value.{Value, fin, ever}
-use Rattle.game.specs.ValueLaws.{fin-injective}
+use Rattle.game.proofs.ValueLaws.{fin-injective}
 use Rattle.game.specs.Arena.{Arena, size}
 use Rattle.game.specs.Play.{Legal}
 use Rattle.game.specs.Restrict.{restricted}
 use Rattle.game.specs.Table.{round_value}
 use Rattle.way.specs.Way.{moves}
 use Rattle.way.specs.Tight.{moves_left, way_after}
-use Rattle.way.specs.WayLaws.{moves-are-left, the-way-is-tight, the-way-is-shortest, the-way-has-moves}
+use Rattle.way.proofs.WayLaws.{moves-are-left, the-way-is-tight, the-way-is-shortest, the-way-has-moves}
 use Rattle.distances.specs.Distances.{Joins, Distances}
 use Rattle.way_rows.specs.Steps.{straight_to, Pointed, LeadsOn, Followed}
 use Rattle.way_rows.specs.StepsLaws.{stops-inside}

@@ -10,16 +10,16 @@ use Rattle.rows.specs.RowsLaws.{from-inside, to_inside}
 use Rattle.rows.specs.Numbers.{number_of, value_of}
 use Rattle.rows.specs.NumberLaws.{Fits, value-of-number}
 use Rattle.game.specs.Value.{Value, fin, ever, ◌≼◌, ◌⊕◌, value_eq}
-use Rattle.game.specs.ValueLaws.{fin-injective, fin-is-not-ever, ≼fin, ≼trans, ≡→≼, ever≼, ⊕fin, ⊕mono, ⊕below}
+use Rattle.game.proofs.ValueLaws.{fin-injective, fin-is-not-ever, ≼fin, ≼trans, ≡→≼, ever≼, ⊕fin, ⊕mono, ⊕below}
 use Rattle.game.specs.Arena.{Arena, Move, WellFormed, size, move_at, no_move, position_at, unsafe, disturbance_move, Disturbance}
-use Rattle.game.specs.Members.{member-at, at-member}
-use Rattle.game.specs.PlayLaws.{by-test}
+use Rattle.game.proofs.Members.{member-at, at-member}
+use Rattle.game.proofs.PlayLaws.{by-test}
 use Rattle.game.specs.Table.{round_value}
-use Rattle.game.specs.RoundBounds.{round-value-within-size}
+use Rattle.game.proofs.RoundBounds.{round-value-within-size}
 use Rattle.way.specs.Tight.{tight, straightened, tightened, moves_left}
 use Rattle.way.specs.TightLaws.{mapped_at, tightened-size, tightened-is-well-formed, some-shortens, none_left, one_at_most, Tight, disturbance-is-tight}
-use Rattle.way.specs.WayLaws.{Leading}
-use Rattle.way.specs.OneWay.{next-exists}
+use Rattle.way.proofs.WayLaws.{Leading}
+use Rattle.way.proofs.OneWay.{next-exists}
 use Rattle.valuing.specs.ValuingLaws.{round-value-fits}
 use Rattle.distances.specs.Distances.{Joins, Distances}
 use Rattle.way_rows.specs.Steps.{is_tight, straight_to, shortens, PointedBy, Pointed, LeadsOn}

@@ -16,7 +16,7 @@ use Rattle.rows.specs.Numbers.{number_of}
 use Rattle.game.specs.Value.{Value, value_eq}
 use Rattle.game.specs.Arena.{Arena}
 use Rattle.game.specs.Play.{Trail, still, meant, disturbed, last}
-use Rattle.game.specs.PlayLaws.{disturbance-costs-one}
+use Rattle.game.proofs.PlayLaws.{disturbance-costs-one}
 use Rattle.game.specs.Table.{round_value}
 use Rattle.way.specs.Way.{moves}
 use Rattle.way.specs.Tight.{onward, way_after}

@@ -7,11 +7,11 @@ use mathlib.Core.List.{List, [], ◌∷◌}
 use Rattle.rows.specs.Numbers.{value_of, number_of}
 use Rattle.rows.specs.NumberLaws.{value-of-number}
 use Rattle.game.specs.Value.{Value, fin, ◌≼◌, ◌≺◌, ◌⊕◌}
-use Rattle.game.specs.ValueLaws.{⊕zero, ⊕fin, ≡→≼, ≺-not-≼}
+use Rattle.game.proofs.ValueLaws.{⊕zero, ⊕fin, ≡→≼, ≺-not-≼}
 use Rattle.game.specs.Arena.{size, unsafe}
-use Rattle.game.specs.PlayLaws.{disturbance-costs-one}
+use Rattle.game.proofs.PlayLaws.{disturbance-costs-one}
 use Rattle.game.specs.Certificate.{CertifiedAt}
-use Rattle.game.specs.Holding.{chosen-move-holds, disturbance-holds}
+use Rattle.game.proofs.Holding.{chosen-move-holds, disturbance-holds}
 use Rattle.chart.specs.Meaning.{arena_of}
 use Rattle.chart.specs.Accepted.{accepted-size, accepted-few}
 use Rattle.plate.specs.RangeLaws.{below-fits}

@@ -8,9 +8,9 @@ use Rattle.rows.specs.Numbers.{value_of, number_of}
 use Rattle.game.specs.Value.{Value, fin, ◌≼◌, ◌≺◌, ◌⊕◌}
 use Rattle.game.specs.Arena.{Arena, owner_at, Meant as Meant', Disturbance as Disturbance'}
 use Rattle.game.specs.Play.{Trail, still, meant, disturbed, last, cost, Allows, target_of, Play, Legal, positional}
-use Rattle.game.specs.PlayLaws.{disturbance-costs-one, positional-pick}
-use Rattle.game.specs.Certified.{certificate-is-legal}
-use Rattle.game.specs.Holding.{choices-keep, keeping-is-safe}
+use Rattle.game.proofs.PlayLaws.{disturbance-costs-one, positional-pick}
+use Rattle.game.proofs.Certified.{certificate-is-legal}
+use Rattle.game.proofs.Holding.{choices-keep, keeping-is-safe}
 use Rattle.chart.specs.Meaning.{arena_of}
 use Rattle.chart.specs.Accepted.{accepted-chartable}
 use Rattle.refusal.specs.declared.Refusal.TheVariants.{Fault, Held}

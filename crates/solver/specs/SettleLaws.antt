@@ -8,7 +8,7 @@ use Rattle.rows.specs.Numbers.{number_at}
 use Rattle.rows.specs.Notes.{Noted}
 use Rattle.game.specs.Arena.{Arena}
 use Rattle.game.specs.Table.{Table, ready, table_after}
-use Rattle.game.specs.Stable.{Settled, settled-stays, steps-stop-early}
+use Rattle.game.proofs.Stable.{Settled, settled-stays, steps-stop-early}
 use Rattle.round.specs.Round.{Placing, decides, ready_flag}
 use Rattle.round.specs.Held.{Holds, Flags}
 use Rattle.solver.specs.Solving.{Settling}

@@ -11,9 +11,9 @@ use Rattle.rows.specs.Numbers.{number_of, number_at}
 use Rattle.rows.specs.Notes.{Noted}
 use Rattle.game.specs.Arena.{Arena}
 use Rattle.game.specs.Table.{Table, unplaced, placed, is_placed, placed_value, placed_step, begins, table_after, table_before, table}
-use Rattle.game.specs.TableLaws.{Takes, place_none}
-use Rattle.game.specs.RoundTables.{before-length}
-use Rattle.game.specs.Stable.{values-end, values-stop-at-a-quiet-round}
+use Rattle.game.proofs.TableLaws.{Takes, place_none}
+use Rattle.game.proofs.RoundTables.{before-length}
+use Rattle.game.proofs.Stable.{values-end, values-stop-at-a-quiet-round}
 use Rattle.round.specs.Round.{Placing, disturbs}
 use Rattle.round.specs.Held.{Holds, Flags}
 use Rattle.solver.specs.Solving.{Settling, Solving, Solved}

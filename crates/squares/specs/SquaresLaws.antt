@@ -13,8 +13,8 @@ use Rattle.search.specs.Below.{some_below, some_next}
 use Rattle.rows.specs.Rows.{RowIs}
 use Rattle.numbering.specs.Numbering.{digit, digits, numeral, set_number}
 use Rattle.numbering.specs.Squares.{digit_of, in_set}
-use Rattle.numbering.specs.SetLaws.{set-bound}
-use Rattle.numbering.specs.NumeralLaws.{digits-bound, digit-bound, numeral-next, numeral-bound}
+use Rattle.numbering.proofs.SetLaws.{set-bound}
+use Rattle.numbering.proofs.NumeralLaws.{digits-bound, digit-bound, numeral-next, numeral-bound}
 use Rattle.squares.specs.Held.{TargetsAre, SquareIs, cell, held_digit, joined_below}
 
 -- Three places

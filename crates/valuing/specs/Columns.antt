@@ -9,10 +9,10 @@ use Rattle.rows.specs.NumberLaws.{Fits, value-of-number}
 use Rattle.game.specs.Value.{Value}
 use Rattle.game.specs.Arena.{Arena, Owner, controller, environment, nobody, WellFormed, size, owner_at}
 use Rattle.game.specs.Play.{LegalAs}
-use Rattle.game.specs.PlayLaws.{meant-inside}
+use Rattle.game.proofs.PlayLaws.{meant-inside}
 use Rattle.game.specs.Table.{round_value, round_step}
 use Rattle.game.specs.Best.{best_at}
-use Rattle.game.specs.BestLaws.{best-is-legal}
+use Rattle.game.proofs.BestLaws.{best-is-legal}
 use Rattle.valuing.specs.Valuing.{PlateRows}
 use Rattle.valuing.specs.ValuingLaws.{round-value-fits, round-step-fits}
 

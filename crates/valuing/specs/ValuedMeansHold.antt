@@ -7,14 +7,14 @@ use Rattle.rows.specs.Numbers.{row_value, Agree}
 use Rattle.rows.specs.declared.Chart.{Chart}
 use Rattle.rows.specs.declared.FirstLine.{FirstLine}
 use Rattle.game.specs.Value.{Value, fin, ever, ◌≼◌}
-use Rattle.game.specs.ValueLaws.{fin-is-not-ever}
+use Rattle.game.proofs.ValueLaws.{fin-is-not-ever}
 use Rattle.game.specs.Arena.{Arena, Owner, controller, environment, nobody, WellFormed, size, owner_at, Meant}
-use Rattle.game.specs.PlayLaws.{meant-inside}
+use Rattle.game.proofs.PlayLaws.{meant-inside}
 use Rattle.game.specs.Worth.{IsValue}
 use Rattle.game.specs.Table.{Placement, unplaced, placed, placement_at, table, placed_value, placed_step, round_value, round_step}
-use Rattle.game.specs.TableIsRounds.{rows-are-the-rounds, rows-have-the-never-placed}
-use Rattle.game.specs.RoundValues.{rounds-give-the-values}
-use Rattle.game.specs.BestLaws.{best-is-the-choice}
+use Rattle.game.proofs.TableIsRounds.{rows-are-the-rounds, rows-have-the-never-placed}
+use Rattle.game.proofs.RoundValues.{rounds-give-the-values}
+use Rattle.game.proofs.BestLaws.{best-is-the-choice}
 use Rattle.game.specs.Choice.{IsBest, IsChoiceAs}
 use Rattle.game.specs.FirstLine.{pair_count}
 use Rattle.chart.specs.Meaning.{arena_of}

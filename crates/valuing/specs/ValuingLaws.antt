@@ -11,7 +11,7 @@ use Rattle.rows.specs.NumberLaws.{Fits, value-of-number, same-values}
 use Rattle.game.specs.Value.{Value, fin, ever}
 use Rattle.game.specs.Arena.{Arena, WellFormed, size}
 use Rattle.game.specs.Table.{table, placement_at, placed_value, placed_step, Placement, placed, unplaced, round_value, round_step}
-use Rattle.game.specs.RoundBounds.{round-value-within-size, round-step-within-size, pair-within-size}
+use Rattle.game.proofs.RoundBounds.{round-value-within-size, round-step-within-size, pair-within-size}
 use Rattle.game.specs.FirstLine.{pair_count}
 use Rattle.chart.specs.Meaning.{arena_of}
 use Rattle.chart.specs.Examined.{examined}

@@ -4,8 +4,8 @@ use Rattle.std.specs.Prelude.{ℕ, ◌≡◌}
 use Rattle.game.specs.Value.{Value}
 use Rattle.game.specs.Arena.{Arena, WellFormed, size}
 use Rattle.game.specs.Table.{round_step}
-use Rattle.game.specs.Certified.{certificate-is-legal, certificate-gives-values, certificate-gives-worths}
-use Rattle.game.specs.RoundValues.{optimal-choices-with-round-steps-have-a-certificate}
+use Rattle.game.proofs.Certified.{certificate-is-legal, certificate-gives-values, certificate-gives-worths}
+use Rattle.game.proofs.RoundValues.{optimal-choices-with-round-steps-have-a-certificate}
 use Rattle.rows.specs.FirstLine.{FirstLineIs}
 use Rattle.rows.specs.declared.FirstLine.{FirstLine}
 use Rattle.verdict.specs.Verdict.{RightPlate, verdict_of}

@@ -5,7 +5,7 @@ use Rattle.std.proofs.Math.Decide.{dec_le}
 use Rattle.std.proofs.Common.{arith, sym, ◌∙◌, inl, inr, eq-eqb, lt-ltb, le-ltb, le-leb}
 use Rattle.std.proofs.lemmas.Bool.{lt-leb}
 use Rattle.game.specs.Value.{ever, value_le, value_lt, ◌⊕◌}
-use Rattle.game.specs.ValueLaws.{⊕fin, ⊕ever}
+use Rattle.game.proofs.ValueLaws.{⊕fin, ⊕ever}
 use Rattle.rows.specs.Numbers.{value_of}
 use Rattle.rows.specs.NumberLaws.{below-number, finite_number, not-above, smaller-number}
 

@@ -11,8 +11,8 @@ use Rattle.game.specs.Value.{Value}
 use Rattle.game.specs.Arena.{Arena, size}
 use Rattle.game.specs.Certificate.{Certificate}
 use Rattle.game.specs.Fault.{fault_at}
-use Rattle.game.specs.FaultLaws.{fault-exactly, no-fault-exactly}
-use Rattle.game.specs.MoveTests.{and_left, and_right, and_both, is_true, is_false, passes-or-fails}
+use Rattle.game.proofs.FaultLaws.{fault-exactly, no-fault-exactly}
+use Rattle.game.proofs.MoveTests.{and_left, and_right, and_both, is_true, is_false, passes-or-fails}
 use Rattle.game.specs.FirstLine.{pair_count, highest, ever_count}
 use Rattle.rows.specs.declared.FirstLine.{FirstLine}
 use Rattle.verdict.specs.Verdict.{FirstFaultIs, at_header, at_position, first_fault, header_right, header_verdict, verdict_of}

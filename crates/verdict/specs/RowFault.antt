@@ -8,12 +8,12 @@ use Rattle.std.specs.Bool.{beq}
 use Rattle.std.proofs.Math.Dec.{eqb}
 use Rattle.std.proofs.lemmas.Bool.{eqb-false}
 use Rattle.game.specs.Value.{Value, fin, ever, value_le, value_eq, ◌⊕◌}
-use Rattle.game.specs.ValueLaws.{value_eq-sound}
+use Rattle.game.proofs.ValueLaws.{value_eq-sound}
 use Rattle.game.specs.Arena.{Arena, Move, Owner, controller, environment, nobody, owner_at, unsafe}
 use Rattle.game.specs.Play.{disturbance_cost, target_of}
 use Rattle.game.specs.Table.{some_move, every_move, meant_from, disturbance_from}
 use Rattle.game.specs.Fault.{earlier, unsafe_zero, dashed, legal_as, meant_hold, disturbances_hold, holds, meant_ruin, disturbance_ruins, ruined, fault_at}
-use Rattle.game.specs.MoveTests.{none-at-rest}
+use Rattle.game.proofs.MoveTests.{none-at-rest}
 use Rattle.rows.specs.Rows.{RowsOf, owner_number}
 use Rattle.rows.specs.NumberLaws.{ever-number, finite_number, same-values}
 use Rattle.conditions.specs.Position.{after_moves, before_moves, is_controller}

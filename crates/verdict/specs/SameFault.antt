@@ -10,7 +10,7 @@ use Rattle.game.specs.Arena.{Arena, Move, Owner, controller, environment, nobody
 use Rattle.game.specs.Play.{disturbance_cost, target_of}
 use Rattle.game.specs.Table.{some_move, every_move, meant_from, disturbance_from}
 use Rattle.game.specs.Fault.{earlier, unsafe_zero, dashed, legal_as, meant_hold, disturbances_hold, holds, meant_ruin, disturbance_ruins, ruined, fault_at}
-use Rattle.game.specs.MoveTests.{is_true, is_false, passes-or-fails}
+use Rattle.game.proofs.MoveTests.{is_true, is_false, passes-or-fails}
 use Rattle.rows.specs.FirstLineLaws.{first-line-same}
 use Rattle.rows.specs.declared.FirstLine.{FirstLine}
 use Rattle.verdict.specs.Verdict.{header_right, header_verdict, verdict_of}

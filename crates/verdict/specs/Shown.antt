@@ -8,10 +8,10 @@ use Rattle.std.proofs.Math.Dec.{eqb}
 use Rattle.game.specs.Value.{fin, value_le, value_eq, ◌⊕◌}
 use Rattle.game.specs.Arena.{Arena, Move, move_at, no_move}
 use Rattle.game.specs.Play.{disturbance_cost}
-use Rattle.game.specs.PlayLaws.{disturbance-counts, disturbance-cost-small}
+use Rattle.game.proofs.PlayLaws.{disturbance-counts, disturbance-cost-small}
 use Rattle.game.specs.Table.{some_move, meant_from, disturbance_from}
 use Rattle.game.specs.Fault.{earlier}
-use Rattle.game.specs.Members.{at-member}
+use Rattle.game.proofs.Members.{at-member}
 use Rattle.rows.specs.Rows.{RowsOf}
 use Rattle.rows.specs.RowsLaws.{lines_of, to_inside}
 use Rattle.rows.specs.NumberLaws.{below-number, finite_number, same-values, smaller-number}

@@ -10,7 +10,7 @@ use Rattle.game.specs.Play.{Legal, positional}
 use Rattle.game.specs.Certificate.{Certificate, CertifiedAt}
 use Rattle.game.specs.Fault.{fault_at}
 use Rattle.game.specs.FirstFault.{FirstFault}
-use Rattle.game.specs.Optimal.{RightValues, WorthsAre}
+use Rattle.game.proofs.Optimal.{RightValues, WorthsAre}
 use Rattle.game.specs.FirstLine.{pair_count, highest, ever_count}
 use Rattle.rows.specs.declared.FirstLine.{FirstLine}
 use Rattle.verdict.specs.declared.Verdict.{Verdict}

@@ -4,7 +4,7 @@ use Rattle.std.proofs.Common.{arith, sym, ◌∙◌}
 use Rattle.std.proofs.Math.Path.{ap}
 use Rattle.std.proofs.Math.Logic.{⊎_map}
 use borrow.Author.Tests.{eq-eqb, ne_eqb, eqb-true, eqb-false}
-use Rattle.search.specs.First.{first-none, first-at, first_or_none, first-same}
+use Rattle.search.proofs.FirstLaws.{first-none, first-at, first_or_none, first-same}
 use Rattle.verdict.specs.Verdict.{first_fault}
 use Rattle.verdict.specs.declared.Verdict.{Verdict}
 use Rattle.verdict.specs.declared.Verdict.TheVariants.{Fault}

@@ -5,7 +5,7 @@ use Rattle.std.proofs.Common.{arith, sym, ◌∙◌}
 use Rattle.std.proofs.Math.Path.{ap}
 use Rattle.std.proofs.Math.Bool.{true, false}
 use Rattle.game.specs.Value.{Value, fin, ◌≼◌, ◌⊕◌}
-use Rattle.game.specs.ValueLaws.{fin-injective, ≼refl, ≼fin, ⊕zero, ⊕fin, ⊕≼trans, below-is-finite}
+use Rattle.game.proofs.ValueLaws.{fin-injective, ≼refl, ≼fin, ⊕zero, ⊕fin, ⊕≼trans, below-is-finite}
 use Rattle.game.specs.Play.{Trail, still, meant, disturbed, last}
 
 -- every move of the trail from v is one of these; `true` is a disturbance

@@ -1,8 +1,5 @@
 -- The shortest way to ruin. Way is its definition, and Tight what computes it; the others have their laws.
 pub mod Way
 pub mod Tight
-pub mod Trails
 pub mod Along
 pub mod TightLaws
-pub mod WayLaws
-pub mod OneWay

@@ -9,14 +9,14 @@ use mathlib.Core.List.{List, [], ◌∷◌, map, Memᴰ}
 use Rattle.std.proofs.Math.ListN.{length-map}
 use Rattle.std.proofs.Math.Dec.{T}
 use Rattle.game.specs.Value.{Value, fin, ever, ◌≼◌, ◌⊕◌, value_eq}
-use Rattle.game.specs.ValueLaws.{⊕fin, ⊕ever, ≼antisym, value_eq-sound}
+use Rattle.game.proofs.ValueLaws.{⊕fin, ⊕ever, ≼antisym, value_eq-sound}
 use Rattle.game.specs.Arena.{Arena, Move, Position, Owner, nobody, WellFormed, size, unsafe, owner_at, position_at, nowhere, meant_move, disturbance_move, Meant, Disturbance}
 use Rattle.game.specs.Play.{Trail, meant, disturbed, disturbance_cost}
-use Rattle.game.specs.PlayLaws.{disturbance-costs-one, disturbance-counts}
+use Rattle.game.proofs.PlayLaws.{disturbance-costs-one, disturbance-counts}
 use Rattle.game.specs.Table.{round_value, round_step}
 use Rattle.game.specs.Best.{best_at}
-use Rattle.game.specs.MoveTests.{and_left, and_right, is_true}
-use Rattle.game.specs.RoundCertificate.{rounds-have-a-certificate}
+use Rattle.game.proofs.MoveTests.{and_left, and_right, is_true}
+use Rattle.game.proofs.RoundCertificate.{rounds-have-a-certificate}
 use Rattle.game.specs.Certificate.{CertifiedAt, DisturbanceRuins, MeantRuin}
 use Rattle.way.specs.Along.{Exact}
 use Rattle.way.specs.Tight.{tight, straightened, unowned, tightened, moves_left, onward}

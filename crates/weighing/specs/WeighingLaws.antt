@@ -17,11 +17,11 @@ use Rattle.game.specs.Arena.{Arena, Move, Owner, controller, environment, nobody
 use Rattle.game.specs.Play.{Legal, LegalAt, positional}
 use Rattle.game.specs.Worth.{WorthIs}
 use Rattle.game.specs.Restrict.{stays, restricted}
-use Rattle.game.specs.RestrictLaws.{restricted-is-well-formed, restricted-value-is-worth}
-use Rattle.game.specs.RoundValues.{rounds-give-the-values}
+use Rattle.game.proofs.RestrictLaws.{restricted-is-well-formed, restricted-value-is-worth}
+use Rattle.game.proofs.RoundValues.{rounds-give-the-values}
 use Rattle.game.specs.Table.{round_value, meant_from}
 use Rattle.game.specs.Fault.{legal_as}
-use Rattle.game.specs.ConditionTests.{legal-test}
+use Rattle.game.proofs.ConditionTests.{legal-test}
 use Rattle.chart.specs.Meaning.{arena_of}
 use Rattle.chart.specs.Examined.{examined}
 use Rattle.chart.specs.Accepted.{accepted-size}

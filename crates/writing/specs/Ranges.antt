@@ -7,10 +7,10 @@ use Rattle.rows.specs.NumberLaws.{value-of-number}
 use Rattle.game.specs.Arena.{Arena, WellFormed, size, owner_at}
 use Rattle.game.specs.Table.{round_value, round_step}
 use Rattle.game.specs.Best.{best_at}
-use Rattle.game.specs.BestLaws.{best-is-legal}
-use Rattle.game.specs.RoundBounds.{round-value-within-size, round-step-within-size, highest-within-size}
+use Rattle.game.proofs.BestLaws.{best-is-legal}
+use Rattle.game.proofs.RoundBounds.{round-value-within-size, round-step-within-size, highest-within-size}
 use Rattle.game.specs.FirstLine.{highest}
-use Rattle.game.specs.FirstLineLaws.{pairs-within-size, evers-within-size}
+use Rattle.game.proofs.FirstLineLaws.{pairs-within-size, evers-within-size}
 use Rattle.plate.specs.Range.{Below, InRange}
 use Rattle.plate.specs.RangeLaws.{below-fits, below-when, legal-below}
 use Rattle.writing.specs.Writing.{rounds_first_line}

@@ -5,7 +5,7 @@ use Prim.Native.Nat.{ℕ, ◌+◌, ◌-◌, ◌<◌}
 use mathlib.Core.Path.{◌≡◌, refl, sym, ap, ◌∙◌, subst}
 use native.Mathlib.Omega.{arith}
 use Rattle.chart.specs.Examined.{is_clean, first_fault, line_finding, meant_in, meant_line}
-use Rattle.search.specs.First.{first_next, first-stop, first_done}
+use Rattle.search.proofs.FirstLaws.{first_next, first-stop, first_done}
 use Rattle.chart.specs.Columns.{row_at, meant_row}
 use mathlib.Core.Bool.{false, cond}
 use lib.ListN.{get_or}

@@ -5,7 +5,7 @@ use native.Mathlib.Omega.{arith}
 use borrow.Author.Tests.{eq-eqb, ne_eqb}
 use Rattle.chart.specs.Text.{letter_at}
 use Rattle.chart.specs.Examined.{is_clean, first_fault, unflagged_at}
-use Rattle.search.specs.First.{first_next, first-stop, first_done}
+use Rattle.search.proofs.FirstLaws.{first_next, first-stop, first_done}
 use Rattle.chart.specs.declared.Finding.TheVariants.{Clean, Fault}
 use Rattle.refusal.specs.declared.Misdrawn.TheVariants.{NoMeant}
 use Rattle.chart.proofs.unflagged.Goals as goal

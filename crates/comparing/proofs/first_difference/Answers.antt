@@ -8,7 +8,8 @@ use mathlib.Core.Bool.{Bool}
 use lib.Dec.{eqb}
 use borrow.Author.Tests.{eq-eqb, ne_eqb}
 use Rattle.rows.specs.Numbers.{number_at}
-use Rattle.search.specs.First.{first_from, first_next, first-stop, first_done}
+use Rattle.search.specs.First.{first_from}
+use Rattle.search.proofs.FirstLaws.{first_next, first-stop, first_done}
 use Rattle.comparing.specs.Comparing.{first_difference}
 use Rattle.comparing.specs.declared.Compared.{Compared}
 use Rattle.comparing.specs.declared.Compared.TheVariants.{Agree, Differ}

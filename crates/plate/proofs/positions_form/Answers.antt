@@ -1,6 +1,7 @@
 -- `plate::positions_form` meets its contract. The invariant: the lowest bad line of what is left is that of all. A good line leaves
 -- that as it is, a bad one ends it, and with nothing left there is none: the three laws of `first_from`.
-use Rattle.search.specs.First.{first_from, first_next, first-stop, first_done}
+use Rattle.search.specs.First.{first_from}
+use Rattle.search.proofs.FirstLaws.{first_next, first-stop, first_done}
 use Rattle.plate.specs.Formed.{position_good, bad_position}
 use Rattle.plate.specs.declared.Form.TheVariants.{Good}
 use borrow.Author.Tests.{not-true, not-false}

@@ -2,7 +2,7 @@
 use native.Mathlib.Omega.{arith}
 use mathlib.Core.Path.{refl}
 use Rattle.numbering.specs.Numbering.{console_digits}
-use Rattle.numbering.specs.NumeralLaws.{console-digits-bound}
+use Rattle.numbering.proofs.NumeralLaws.{console-digits-bound}
 use Rattle.squares.proofs.console_digits.Goals as goal
 
 pub overflow_mul-result-2 : goal.overflow_mul-result-2

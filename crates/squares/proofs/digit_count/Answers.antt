@@ -1,7 +1,7 @@
 -- `digit_count` meets its contract, and its sum fits.
 use native.Mathlib.Omega.{arith}
 use Rattle.numbering.specs.Numbering.{digits}
-use Rattle.numbering.specs.NumeralLaws.{console-digits-bound}
+use Rattle.numbering.proofs.NumeralLaws.{console-digits-bound}
 use Rattle.squares.proofs.digit_count.Goals as goal
 
 pub overflow_add-result : goal.overflow_add-result

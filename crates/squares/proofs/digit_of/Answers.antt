@@ -3,7 +3,7 @@ use Prim.Native.Nat.{◌<◌}
 use native.Mathlib.Omega.{arith}
 use mathlib.Core.Bool.{Bool, true, false}
 use Rattle.numbering.specs.Numbering.{digit}
-use Rattle.numbering.specs.NumeralLaws.{digit-bound}
+use Rattle.numbering.proofs.NumeralLaws.{digit-bound}
 use Rattle.squares.proofs.digit_of.Goals as goal
 
 pub overflow_mul-rest : goal.overflow_mul-rest

@@ -6,7 +6,7 @@ use native.Mathlib.Nat.{le_antisymm}
 use mathlib.Core.Path.{◌≡◌, refl, ap, ◌∙◌}
 use lib.ListN.{get_or}
 use Rattle.numbering.specs.Numbering.{numeral}
-use Rattle.numbering.specs.SetLaws.{set-bound}
+use Rattle.numbering.proofs.SetLaws.{set-bound}
 use Rattle.squares.specs.Held.{cell, held_index}
 use Rattle.squares.specs.SquaresLaws.{held_below, held_next, held-bound, held-product, sets-bound}
 use Rattle.squares.proofs.index_of.Goals as goal

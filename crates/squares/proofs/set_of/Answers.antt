@@ -4,7 +4,7 @@ use native.Mathlib.Omega.{arith}
 use mathlib.Core.Bool.{false}
 use lib.ListN.{get_or}
 use Rattle.numbering.specs.Numbering.{set_number}
-use Rattle.numbering.specs.SetLaws.{set-bound}
+use Rattle.numbering.proofs.SetLaws.{set-bound}
 use Rattle.squares.proofs.set_of.Goals as goal
 
 pub overflow_mul-result : goal.overflow_mul-result
