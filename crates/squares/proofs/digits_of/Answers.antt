@@ -3,7 +3,7 @@ use native.Mathlib.Omega.{arith}
 use Prim.Native.Nat.{◌^◌}
 use mathlib.Core.Path.{◌≡◌, ap, ◌∙◌}
 use Rattle.numbering.specs.Numbering.{digits}
-use Rattle.numbering.specs.NumeralLaws.{digits-positive}
+use Rattle.numbering.proofs.NumeralLaws.{digits-positive}
 use Rattle.squares.specs.SquaresLaws.{sets-bound, one-digit, two_digits, three-digits}
 use Rattle.squares.proofs.digits_of.Goals as goal
 
