@@ -32,10 +32,10 @@ loop-v-preserved c =
     let a = c.args in
     let text = a.text.now in
     let clean : unflagged_at text a.flags.now c.loop-v.v ≡ Clean =
-        elim c.if-flags-v-eq0.branch [
-          then-flags-v-eq0+else-letter_at-ne82 w ↦ simp (eq-eqb _ _ w.if-flags-v-eq0.true, eq-eqb _ _ (sym w.letter_at.ensures ∙ w.if-letter_at-ne82.false)) |
-          else-flags-v-eq0 w ↦ simp (ne_eqb _ _ w.if-flags-v-eq0.false)
-        ] in
+    elim c.if-flags-v-eq0.branch [
+      | then-flags-v-eq0+else-letter_at-ne82 w ↦ simp (eq-eqb _ _ w.if-flags-v-eq0.true, eq-eqb _ _ (sym w.letter_at.ensures ∙ w.if-letter_at-ne82.false))
+      | else-flags-v-eq0 w ↦ simp (ne_eqb _ _ w.if-flags-v-eq0.false)
+    ] in
     (omega arith, first_next _ (unflagged_at text a.flags.now) Clean a.n c.loop-v.v (omega arith) (ap is_clean clean) ∙ c.loop-v.invariant.1)
 
 pub returns : goal.returns

@@ -71,7 +71,6 @@ pub reach-last-requires : goal.reach-last-requires
 reach-last-requires c =
     let target : ℕ = get_or c.args.order.now c.args.head 0 in
     let visiting : Visiting c.args.n c.args.m c.requires.by_index.0.0 c.args.froms.now c.requires.by_index.0.1.0 c.args.head (target) (get_or c.args.left.now (target) 0 + 1) c.loop-i.left c.loop-i.order c.loop-i.last c.loop-i.i = c.loop-i.invariant.2 _ _ c.requires.by_index.0.1.1.0 c.requires.by_index.0.1.1.1 c.requires.by_index.0.1.1.2 in
-
     let from = c.requires.by_index.0.1.1.1.from-inside _ c.loop-i-test.true in
     let queue = (visiting).search.queue in
     (omega (arith, from, c.requires.by_index.2), omega (arith, from, c.requires.in_bounds, c), omega (arith, queue-most queue, c.requires.by_index.2), λ none. omega (arith, queue-room queue from none, c.requires.in_bounds, c))

@@ -61,8 +61,7 @@ overflow_cast-j c = let position : ℕ = get_or c.args.order.now c.args.head 0 i
 
 pub loop-j-init : goal.loop-j-init
 loop-j-init c =
-    let position : ℕ = get_or c.args.order.now c.args.head 0 in
-    (
+    let position : ℕ = get_or c.args.order.now c.args.head 0 in (
       as-long-same,
       λ n g ready more.
           let at = entries_from g ready more in

@@ -41,7 +41,8 @@ pub walk_moves-requires : goal.walk_moves-requires
 walk_moves-requires c =
     let fits = header-fits c.args.text.now c.args.chart c.requires.text_value in
     let lines = c.spell_lines.ensures in
-    let rows = c.requires.in_bounds_2 in record { tables = record {
+    let rows = c.requires.in_bounds_2 in record {
+      tables = record {
         few = fits.positions;
         opening = lines.opening.row;
         middle = lines.middle.row;
@@ -50,7 +51,11 @@ walk_moves-requires c =
         openings-row = omega (arith, lines.opening.same_length);
         middles-row = omega (arith, lines.middle.same_length);
         closings-row = omega (arith, lines.closing.same_length);
-      }; row_is = (row-replicate 1024 0 (omega arith), omega arith); m_bound = (fits.moves, omega arith); m_in_bounds = (omega (arith, rows.0), omega (arith, rows.1), omega (arith, rows.2)) }
+      };
+      row_is = (row-replicate 1024 0 (omega arith), omega arith);
+      m_bound = (fits.moves, omega arith);
+      m_in_bounds = (omega (arith, rows.0), omega (arith, rows.1), omega (arith, rows.2));
+    }
 
 pub returns-then-not-walk_moves : goal.returns-then-not-walk_moves
 returns-then-not-walk_moves c =

@@ -40,8 +40,7 @@ bounds-led-i c = let led-length : length c.loop-i.led ≡ length c.args.led.now 
 pub loop-i-preserved : goal.loop-i-preserved
 loop-i-preserved c =
     let positions-length : length c.loop-i.positions ≡ length c.args.positions.now = c.loop-i.invariant.1 ∙ length-set c.args.positions.now 0 c.args.start in
-    let led-length : length c.loop-i.led ≡ length c.args.led.now = c.loop-i.invariant.2 ∙ length-set c.args.led.now 0 0 in
-    (
+    let led-length : length c.loop-i.led ≡ length c.args.led.now = c.loop-i.invariant.2 ∙ length-set c.args.led.now 0 0 in (
       omega arith,
       rw length-set c.loop-i.invariant.1,
       rw length-set c.loop-i.invariant.2,
