@@ -16,7 +16,7 @@ overflow_cast-to c = omega (arith, c.shared_slice_known-in-loop-lane-1.given c.l
 
 pub returns-in-Refused : goal.returns-in-Refused
 returns-in-Refused c =
-    let in-house : c.loop-lane.lane < length c.args.t1 = search rules in
+    let in-house : c.loop-lane.lane < length c.args.runs = search rules in
     rw c.refused.ensures
     (lane-refused c.loop-lane.invariant c.requires.4 c.loop-lane-test.true c.if-to.true (in-house) _
     c.report_checked-reported.ensures _ c.answer-1.given.1)
@@ -27,7 +27,7 @@ overflow_add-moved c =
 
 pub loop-lane-preserved : goal.loop-lane-preserved
 loop-lane-preserved c =
-    let in-house : c.loop-lane.lane < length c.args.t1 = search rules in
+    let in-house : c.loop-lane.lane < length c.args.runs = search rules in
     let inv = c.loop-lane.invariant in
     let row = c.requires.4 in
     let inside = c.loop-lane-test.true in
