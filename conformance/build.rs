@@ -1,5 +1,5 @@
-//! Links the library's C archive, which `rt staticlib dushemqa` leaves under the repository's target folder, and with the
-//! feature `lines` that of `rt staticlib timed_lines`.
+//! Links the library's C archive, which `c/build` leaves under the repository's target folder, and with the feature `lines` that of
+//! `timed_lines`, which `conformance/timings` leaves beside it.
 
 use std::path::Path;
 

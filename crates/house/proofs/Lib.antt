@@ -1,4 +1,1 @@
-pub mod Again
-pub mod Counted
-pub mod Records
-pub mod Shared
+pub mod Copying

@@ -26,7 +26,7 @@ use Rattle.house.specs.declared.Housed.TheVariants.{Moved, Refused}
 after_both : (run : Run) (rs ts : List Report) → run_after run (rs ++ ts) ≡ run_after (run_after run rs) ts
 unfolding run_after
 after_both run [] ts = refl
-after_both run (r ∷ rs) ts = after_both _ rs ts
+after_both run (r ∷ rs) ts = after_both (answered run r).run rs ts
 
 -- One call
 

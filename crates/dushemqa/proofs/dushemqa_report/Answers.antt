@@ -1,5 +1,5 @@
 -- `dushemqa_report` meets its contract: the job's answer, in numbers.
-use mathlib.Core.Path.{◌∙◌, ap}
+use Rattle.std.proofs.Common.{◌∙◌, ap}
 use Rattle.answers.specs.Numbers.{reported_numbers}
 use Rattle.dushemqa.proofs.dushemqa_report.Goals as goal
 

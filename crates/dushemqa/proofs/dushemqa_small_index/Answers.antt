@@ -1,5 +1,5 @@
 -- `dushemqa_small_index` meets its contract: the job's answer, in numbers.
-use mathlib.Core.Path.{◌∙◌, ap}
+use Rattle.std.proofs.Common.{◌∙◌, ap}
 use Rattle.answers.specs.Numbers.{indexed_numbers}
 use Rattle.dushemqa.proofs.dushemqa_small_index.Goals as goal
 

@@ -1,5 +1,5 @@
 -- `dushemqa_start` meets its contract: the job's answer, in numbers.
-use mathlib.Core.Path.{◌∙◌, ap}
+use Rattle.std.proofs.Common.{◌∙◌, ap}
 use Rattle.answers.specs.Numbers.{started_numbers}
 use Rattle.dushemqa.proofs.dushemqa_start.Goals as goal
 

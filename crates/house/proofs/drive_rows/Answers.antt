@@ -1,4 +1,5 @@
 -- `drive_rows` meets its contract: Checking's refusal is the house's, and an accepted plate, which is of the form, is gone on with.
+use Rattle.std.proofs.Common.{refl}
 use Rattle.checking.specs.CheckingLaws.{accepted-form}
 use Rattle.house.specs.HousingLaws.{rows-accepted, rows-refused}
 use Rattle.house.proofs.drive_rows.Goals as goal
@@ -6,10 +7,10 @@ use Rattle.house.proofs.drive_rows.Goals as goal
 pub drive_lanes-requires : goal.drive_lanes-requires
 drive_lanes-requires c =
     let pre = c.requires in
-    ((_, pre.0), pre.1, accepted-form _ pre.0.1 c.check_plate.ensures c.enum_told-1.given.1, pre.2, pre.3)
+    ((_, pre.0), pre.1, accepted-form _ pre.0.1 c.in-Accepted.ensures refl, pre.2, pre.3)
 
 pub returns-in-Refused : goal.returns-in-Refused
-returns-in-Refused c = rw c.refused.ensures (rows-refused _ _ _ c.check_plate.ensures _ c.r-1.given.1)
+returns-in-Refused c = rw c.refused.ensures (rows-refused _ _ _ c.in-Refused.ensures _ refl)
 
 pub returns-in-Accepted : goal.returns-in-Accepted
-returns-in-Accepted c = rows-accepted _ _ _ c.check_plate.ensures c.enum_told-1.given.1 c.drive_lanes.ensures
+returns-in-Accepted c = rows-accepted _ _ _ c.in-Accepted.ensures refl c.drive_lanes.ensures

@@ -1,5 +1,5 @@
 -- `refused` meets its contract: the fields are those of the definition.
-use mathlib.Core.Path.{refl}
+use Rattle.std.proofs.Common.{refl}
 use Rattle.house.specs.Driving.{refused_house}
 use Rattle.house.proofs.refused.Goals as goal
 
