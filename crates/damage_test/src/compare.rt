@@ -6,6 +6,7 @@ use crate::table::{Answer, accepted, judge, number, refused, spells};
 use chart::{Examination, examine};
 use listing::{Listed, list_good_moves};
 use refusal::Refusal;
+use std::io;
 use writing::{Written, write_plate};
 
 // Answers by their number, 0 for accepted ones, and what follows.
@@ -28,7 +29,13 @@ fn add(tally: &mut Tally, k: usize) {
 }
 
 // Draws a chart, damages it by a kind, and compares.
-pub fn compare_drawn(kind: usize, rests: bool, seed: &mut usize, tally: &mut Tally) {
+pub fn compare_drawn(
+    rt: &impl Print,
+    kind: usize,
+    rests: bool,
+    seed: &mut usize,
+    tally: &mut Tally,
+) -> io::Result<()> {
     let mut page = [b'#'; 4096];
     let lines = draw(&mut page, rests, seed) % 341;
     let size = if kind == 0 {
@@ -38,7 +45,7 @@ pub fn compare_drawn(kind: usize, rests: bool, seed: &mut usize, tally: &mut Tal
     };
     let mut filled = page;
     let blanks = fill(&mut filled, size);
-    compare_text(part(&page, size), part(&filled, size), blanks, tally);
+    compare_text(rt, part(&page, size), part(&filled, size), blanks, tally)
 }
 
 // The first bytes of a page.
@@ -80,21 +87,40 @@ fn is_blank(page: &Page, i: usize) -> bool {
 }
 
 // All comparisons of a text. In the filled one every blank mark is 0.
-pub fn compare_text(text: &[u8], filled: &[u8], blanks: usize, tally: &mut Tally) {
+pub fn compare_text(
+    rt: &impl Print,
+    text: &[u8],
+    filled: &[u8],
+    blanks: usize,
+    tally: &mut Tally,
+) -> io::Result<()> {
     let mut plate = [b'#'; 2048];
     let mut other = [b'#'; 2048];
     let expected = judge(text);
     count(expected.number, blanks, tally);
-    expect(examined(examine(text)), expected, true, text, tally);
+    expect(rt, examined(examine(text)), expected, true, text, tally)?;
     let answer = written(write_plate(text, &mut plate));
-    expect(answer, expected, true, text, tally);
+    expect(rt, answer, expected, true, text, tally)?;
     let answer = written(write_plate(filled, &mut other));
-    expect(answer, expected, same_sheets(&plate, &other), text, tally);
-    compare_sheets(text, filled, expected, tally);
+    expect(
+        rt,
+        answer,
+        expected,
+        same_sheets(&plate, &other),
+        text,
+        tally,
+    )?;
+    compare_sheets(rt, text, filled, expected, tally)
 }
 
 // Listing. The table says nothing of the lines: there are as many as in the filled text. A refusal leaves the sheet.
-fn compare_sheets(text: &[u8], filled: &[u8], expected: Answer, tally: &mut Tally) {
+fn compare_sheets(
+    rt: &impl Print,
+    text: &[u8],
+    filled: &[u8],
+    expected: Answer,
+    tally: &mut Tally,
+) -> io::Result<()> {
     let blank = [b'#'; 2048];
     let mut sheet = [b'#'; 2048];
     let mut other = [b'#'; 2048];
@@ -106,8 +132,8 @@ fn compare_sheets(text: &[u8], filled: &[u8], expected: Answer, tally: &mut Tall
         length: again.length,
     };
     let stayed = (expected.number == 0) | same_sheets(&sheet, &blank);
-    expect(answer, wanted, stayed, text, tally);
-    expect(again, wanted, same_sheets(&sheet, &other), text, tally);
+    expect(rt, answer, wanted, stayed, text, tally)?;
+    expect(rt, again, wanted, same_sheets(&sheet, &other), text, tally)
 }
 
 fn count(number: usize, blanks: usize, tally: &mut Tally) {
@@ -167,24 +193,32 @@ fn same_sheets(a: &Sheet, b: &Sheet) -> bool {
 }
 
 // Counts an answer that is not the table's, or sheets that differ. The first few are shown, with their text.
-fn expect(answer: Answer, expected: Answer, sheets: bool, text: &[u8], tally: &mut Tally) {
+fn expect(
+    rt: &impl Print,
+    answer: Answer,
+    expected: Answer,
+    sheets: bool,
+    text: &[u8],
+    tally: &mut Tally,
+) -> io::Result<()> {
     let refusals = (answer.number == expected.number) & (answer.line == expected.line);
     if refusals & sheets & (answer.length == expected.length) {
-        return;
+        return Ok(());
     }
     add(tally, MISMATCHES);
     if tally[12] < 5 {
-        show(b"answered", answer);
-        show(b", by the table", expected);
-        io::write_all(1, b"\n");
-        io::write_all(1, text);
+        show(rt, b"answered", answer)?;
+        show(rt, b", by the table", expected)?;
+        rt.write_all(b"\n")?;
+        rt.write_all(text)?;
     }
+    Ok(())
 }
 
-fn show(name: &[u8], answer: Answer) {
-    io::write_all(1, name);
-    io::write_all(1, b" ");
-    io::print_decimal(1, answer.number as u64);
-    io::write_all(1, b" at line ");
-    io::print_decimal(1, answer.line as u64);
+fn show(rt: &impl Print, name: &[u8], answer: Answer) -> io::Result<()> {
+    rt.write_all(name)?;
+    rt.write_all(b" ")?;
+    rt.print(answer.number)?;
+    rt.write_all(b" at line ")?;
+    rt.print(answer.line)
 }

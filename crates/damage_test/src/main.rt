@@ -4,76 +4,77 @@
 #![tactic(auto)]
 
 use crate::compare::{RESTING, Tally, compare_drawn, compare_text};
+use std::io;
 
 mod compare;
 mod damage;
 mod draw;
 mod table;
 
-fn main() {
-    io::write_all(
-        1,
+fn main(rt: HostRuntime) -> io::Result<()> {
+    rt.write_all(
         b"accepted, refused by 1 to 9; with blank marks, accepted of these; mismatches\n",
-    );
-    some(b"as drawn", 0, 10000, false);
-    some(b"a byte changed", 1, 20000, false);
-    some(b"a field changed", 2, 40000, false);
-    some(b"a letter changed", 3, 10000, false);
-    some(b"a line dropped", 4, 10000, false);
-    some(b"a line doubled", 5, 10000, false);
-    some(b"two lines exchanged", 6, 10000, false);
-    some(b"the header changed", 7, 10000, false);
-    some(b"cut or lengthened", 8, 10000, false);
-    some(b"two of these", 10, 80000, false);
-    long();
-    some(b"some of rest, as drawn", 0, 10000, true);
-    some(b"some of rest, a byte changed", 1, 10000, true);
-    some(b"some of rest, a field changed", 2, 20000, true);
-    some(b"some of rest, a letter changed", 3, 20000, true);
-    some(b"some of rest, a line dropped", 4, 5000, true);
-    some(b"some of rest, a line doubled", 5, 5000, true);
-    some(b"some of rest, two lines exchanged", 6, 5000, true);
-    some(b"some of rest, a meant move from one", 9, 10000, true);
-    some(b"some of rest, two of these", 10, 40000, true);
+    )?;
+    some(&rt, b"as drawn", 0, 10000, false)?;
+    some(&rt, b"a byte changed", 1, 20000, false)?;
+    some(&rt, b"a field changed", 2, 40000, false)?;
+    some(&rt, b"a letter changed", 3, 10000, false)?;
+    some(&rt, b"a line dropped", 4, 10000, false)?;
+    some(&rt, b"a line doubled", 5, 10000, false)?;
+    some(&rt, b"two lines exchanged", 6, 10000, false)?;
+    some(&rt, b"the header changed", 7, 10000, false)?;
+    some(&rt, b"cut or lengthened", 8, 10000, false)?;
+    some(&rt, b"two of these", 10, 80000, false)?;
+    long(&rt)?;
+    some(&rt, b"some of rest, as drawn", 0, 10000, true)?;
+    some(&rt, b"some of rest, a byte changed", 1, 10000, true)?;
+    some(&rt, b"some of rest, a field changed", 2, 20000, true)?;
+    some(&rt, b"some of rest, a letter changed", 3, 20000, true)?;
+    some(&rt, b"some of rest, a line dropped", 4, 5000, true)?;
+    some(&rt, b"some of rest, a line doubled", 5, 5000, true)?;
+    some(&rt, b"some of rest, two lines exchanged", 6, 5000, true)?;
+    some(&rt, b"some of rest, a meant move from one", 9, 10000, true)?;
+    some(&rt, b"some of rest, two of these", 10, 40000, true)
 }
 
 // Charts damaged by a kind, with positions of rest or without.
-fn some(name: &[u8], kind: usize, charts: usize, rests: bool) {
+fn some(rt: &impl Print, name: &[u8], kind: usize, charts: usize, rests: bool) -> io::Result<()> {
     let mut tally = [0usize; 14];
     let mut seed = 1;
     let mut i = 0;
     while i < charts {
-        compare_drawn(kind, rests, &mut seed, &mut tally);
+        compare_drawn(rt, kind, rests, &mut seed, &mut tally)?;
         i += 1;
     }
-    report(&tally, name);
+    report(rt, &tally, name)
 }
 
 // As many bytes as a chart may have, and a line more.
-fn long() {
+fn long(rt: &impl Print) -> io::Result<()> {
     let longest = [b' '; 55308];
     let longer = [b' '; 55320];
     let mut tally = [0usize; 14];
-    compare_text(&longest, &longest, 0, &mut tally);
-    compare_text(&longer, &longer, 0, &mut tally);
-    report(&tally, b"55,308 and 55,320 spaces");
+    compare_text(rt, &longest, &longest, 0, &mut tally)?;
+    compare_text(rt, &longer, &longer, 0, &mut tally)?;
+    report(rt, &tally, b"55,308 and 55,320 spaces")
 }
 
-fn report(tally: &Tally, name: &[u8]) {
+fn report(rt: &impl Print, tally: &Tally, name: &[u8]) -> io::Result<()> {
     let mut k: usize = 0;
     while k < 13 {
-        io::print_decimal(1, tally[k] as u64);
-        io::write_all(1, b" ");
+        rt.print(tally[k])?;
+        rt.write_all(b" ")?;
         k += 1;
     }
-    io::write_all(1, name);
-    report_resting(tally[RESTING]);
-    io::write_all(1, b"\n");
+    rt.write_all(name)?;
+    report_resting(rt, tally[RESTING])?;
+    rt.write_all(b"\n")
 }
 
-fn report_resting(count: usize) {
+fn report_resting(rt: &impl Print, count: usize) -> io::Result<()> {
     if 0 < count {
-        io::write_all(1, b", refused by 17: ");
-        io::print_decimal(1, count as u64);
+        rt.write_all(b", refused by 17: ")?;
+        rt.print(count)?;
     }
+    Ok(())
 }

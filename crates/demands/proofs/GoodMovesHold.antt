@@ -1,5 +1,5 @@
 -- The good moves' proof: the sheet's lines read as the good moves and as no others (listing/specs/SheetLaws.antt), and of good moves the
--- theory knows the rest (game/specs/GoodLaws.antt).
+-- theory knows the rest (game/proofs/GoodLaws.antt).
 use Rattle.std.specs.Prelude.{ℕ, ◌*◌, ◌≤◌, ◌<◌, ◌≡◌, refl, ◌↔◌, Bool, true, false, cond, List, ◌++◌, length, get_or, take, drop, leb}
 use Rattle.std.proofs.Common.{arith, sym, ap, subst₂, ◌∙◌, take_at, drop_at}
 use Rattle.std.proofs.Math.Path.{subst}

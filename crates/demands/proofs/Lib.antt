@@ -1,4 +1,4 @@
--- What is proved of the definitions in specs/.
+-- That the demands hold: each file composes what the crates below have shown.
 pub mod Demand1Holds
 pub mod HouseRows
 pub mod ReportRows

@@ -1,5 +1,5 @@
 -- Every small chart: the text of an index is that of its arena, which is accepted and means it (chart/specs/Faithful.antt), and each small arena has
--- one index (numbering/specs/EverySmall.antt).
+-- one index (numbering/proofs/EverySmall.antt).
 use Rattle.std.specs.Prelude.{ℕ, ◌≡◌, refl, List, length, take, drop}
 use Rattle.std.proofs.Common.{sym, ap, ◌∙◌, subst, subst₂, take_at}
 use Rattle.game.specs.Arena.{Arena, size}

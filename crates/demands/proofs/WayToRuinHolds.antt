@@ -1,4 +1,4 @@
--- The way to ruin's proof: the trail whose lines are written is the one way that there is (way/specs/OneWay.antt).
+-- The way to ruin's proof: the trail whose lines are written is the one way that there is (way/proofs/OneWay.antt).
 use Rattle.std.specs.Prelude.{ℕ, ◌*◌, ◌<◌, ◌≡◌, refl, Bool, true, false, cond, List, length, take, drop, leb, ltb}
 use Rattle.std.proofs.Common.{arith, sym, ap, ◌∙◌, take_at, drop_at, ltb-true}
 use Rattle.rows.specs.Numbers.{row_value}

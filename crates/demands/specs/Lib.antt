@@ -1,4 +1,4 @@
--- The mission's demands, stated over what the jobs ensure, and the proofs, which only compose what the crates below have shown.
+-- The mission's demands, stated over what the jobs ensure. The proofs, which only compose what the crates below have shown, are in proofs/.
 pub mod Sanctioned
 pub mod Demand1
 pub mod Demand2

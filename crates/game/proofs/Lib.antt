@@ -1,4 +1,4 @@
--- What is proved of the definitions in specs/.
+-- The theorems on plays, controllers, worth and value of an arena (specs/), in reading order.
 pub mod Members
 pub mod ValueLaws
 pub mod PlayLaws

@@ -8,7 +8,7 @@ use Rattle.game.specs.Value.{Value, fin, ever}
 use Rattle.game.specs.Arena.{Arena, Owner, nobody, size, owner_at, unsafe, Disturbance, WellFormed}
 use Rattle.game.specs.Worth.{IsValue}
 use Rattle.game.specs.Rounds.{JoinsAs}
-use Rattle.game.specs.Table.{placed, placement_at, begins, table_after, table_before, table, round_value, round_step}
+use Rattle.game.specs.Table.{placement_at, begins, table_after, table_before, table, round_value, round_step}
 use Rattle.game.proofs.ValueLaws.{fin-is-not-ever}
 use Rattle.game.proofs.PlayLaws.{disturbance-inside}
 use Rattle.game.proofs.PlacementLaws.{placed-of-value, placed-of-step}

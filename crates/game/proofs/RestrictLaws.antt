@@ -1,6 +1,6 @@
 -- in the arena restricted to a legal row of choices, every controller has exactly the plays that the row's controller has
 -- in the whole arena, safe or unsafe alike and at the same cost. So a value there is that controller's worth here.
-use Rattle.std.specs.Prelude.{ℕ, suc, ◌≡◌, ◌⊎◌, ◌↔◌, ◌||◌, not, T}
+use Rattle.std.specs.Prelude.{ℕ, suc, ◌≡◌, ◌↔◌, ◌||◌, not, T}
 use Rattle.std.proofs.Math.Path.{refl, subst}
 use Rattle.std.proofs.Common.{sym, ap, ◌∙◌}
 use Rattle.std.proofs.Math.Logic.{⊎_map}

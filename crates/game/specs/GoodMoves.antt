@@ -1,5 +1,5 @@
 -- The good moves, computed: each move is tested by the values of the rounds.
--- That the test is the definition (specs/Good.antt) is shown in specs/GoodLaws.antt.
+-- That the test is the definition (specs/Good.antt) is shown in proofs/GoodLaws.antt.
 use Rattle.std.specs.Prelude.{Bool, ◌&&◌, List, eqb}
 use Rattle.game.specs.Value.{value_le}
 use Rattle.game.specs.Arena.{Arena, Move, owner_at}

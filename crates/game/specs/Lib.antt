@@ -1,5 +1,5 @@
--- Plays, controllers, worth and value of an arena, and the theorems on them. The modules stand in reading order:
--- first the definitions that a reader must believe, then what is proved of them.
+-- Plays, controllers, worth and value of an arena: the definitions that a reader must believe, in reading order. What is proved of them is in
+-- proofs/.
 pub mod Value
 pub mod Arena
 pub mod Play

@@ -5,31 +5,34 @@ use crate::writer;
 use chart::Examination;
 use refusal::Refusal;
 use rows::Chart;
+use std::io;
 
 // `A` with the counts, or `R` with the number and the line of the refusal.
-pub fn examine(text: &[u8]) {
+pub fn examine(rt: &impl Print, text: &[u8]) -> io::Result<()> {
     match chart::examine(text) {
         Examination::Accepted(c) => {
-            io::write_all(1, b"A");
-            writer::field(c.positions);
-            writer::field(c.moves);
+            rt.write_all(b"A")?;
+            writer::field(rt, c.positions)?;
+            writer::field(rt, c.moves)?;
         }
         Examination::Refused(m) => {
             let r = Refusal::Chart(m).numbers();
-            io::write_all(1, b"R");
-            writer::field(r.number as usize);
-            writer::field(r.line);
+            rt.write_all(b"R")?;
+            writer::field(rt, r.number as usize)?;
+            writer::field(rt, r.line)?;
         }
     }
+    Ok(())
 }
 
 // The plate, or the refusal's line.
-pub fn respond(text: &[u8]) {
+pub fn respond(rt: &impl Print, text: &[u8]) -> io::Result<()> {
     let mut out = [0u8; 11286];
     let size = response::respond(text, &mut out);
     if size <= out.len() {
-        io::write_all(1, &out[0..size]);
+        rt.write_all(&out[0..size])?;
     }
+    Ok(())
 }
 
 // Document 01's chart.
@@ -40,28 +43,29 @@ fn document() -> [u8; 168]
 }
 
 // The longest chart: 512 positions, 8 meant moves from each.
-pub fn longest() {
-    let mut text = io::large_buffer();
+pub fn longest(rt: &impl Print) -> io::Result<()> {
+    let mut text = [0u8; 65536];
     fill(&mut text, 512, 4096);
-    part(b"the longest chart", &text, 55308);
-    part(b"the longest chart, a byte shorter", &text, 55307);
-    part(b"the longest chart, a line shorter", &text, 55296);
-    part(b"the longest chart, a byte longer", &text, 55309);
-    part(b"the longest chart, a line longer", &text, 55320);
+    part(rt, b"the longest chart", &text, 55308)?;
+    part(rt, b"the longest chart, a byte shorter", &text, 55307)?;
+    part(rt, b"the longest chart, a line shorter", &text, 55296)?;
+    part(rt, b"the longest chart, a byte longer", &text, 55309)?;
+    part(rt, b"the longest chart, a line longer", &text, 55320)?;
     fill(&mut text, 513, 4095);
-    part(b"513 positions", &text, 55308);
+    part(rt, b"513 positions", &text, 55308)?;
     fill(&mut text, 511, 4097);
-    part(b"4,097 moves", &text, 55308);
+    part(rt, b"4,097 moves", &text, 55308)?;
     fill(&mut text, 511, 4096);
-    part(b"511 positions", &text, 55296);
+    part(rt, b"511 positions", &text, 55296)
 }
 
-fn part(name: &[u8], text: &[u8], size: usize) {
+fn part(rt: &impl Print, name: &[u8], text: &[u8], size: usize) -> io::Result<()> {
     if size <= text.len() {
-        examine(&text[0..size]);
-        io::write_all(1, b"  ");
-        writer::name(name);
+        examine(rt, &text[0..size])?;
+        rt.write_all(b"  ")?;
+        writer::name(rt, name)?;
     }
+    Ok(())
 }
 
 // A header with these counts, n positions and 4,608 - n moves, up to 8 from each.
@@ -100,7 +104,7 @@ fn put_line(text: &mut [u8], i: usize, letter: u8, a: usize, b: usize) {
 }
 
 // The rows of document 01's chart, behind which what was there stays, and that a refusal clears them: each begins with 9s.
-pub fn rows() {
+pub fn rows(rt: &impl Print) -> io::Result<()> {
     let mut owners = [9u8; Chart::POSITIONS];
     let mut marks = [9u8; Chart::POSITIONS];
     let mut costs = [9u8; Chart::MOVES];
@@ -114,11 +118,11 @@ pub fn rows() {
         &mut froms,
         &mut tos,
     );
-    bytes(b"  owners", &owners, 6);
-    bytes(b"  marks", &marks, 6);
-    bytes(b"  costs", &costs, 9);
-    numbers(b"  froms", &froms, 9);
-    numbers(b"  tos", &tos, 9);
+    bytes(rt, b"  owners", &owners, 6)?;
+    bytes(rt, b"  marks", &marks, 6)?;
+    bytes(rt, b"  costs", &costs, 9)?;
+    numbers(rt, b"  froms", &froms, 9)?;
+    numbers(rt, b"  tos", &tos, 9)?;
     decode::load(
         b"H    1    1\n",
         &mut owners,
@@ -127,12 +131,12 @@ pub fn rows() {
         &mut froms,
         &mut tos,
     );
-    bytes(b"  owners after a refusal", &owners, 6);
-    numbers(b"  tos after a refusal", &tos, 2);
+    bytes(rt, b"  owners after a refusal", &owners, 6)?;
+    numbers(rt, b"  tos after a refusal", &tos, 2)
 }
 
 // The rows of a chart with a position of rest, which begin with 9s too.
-pub fn resting_rows() {
+pub fn resting_rows(rt: &impl Print) -> io::Result<()> {
     let mut owners = [9u8; Chart::POSITIONS];
     let mut marks = [9u8; Chart::POSITIONS];
     let mut costs = [9u8; Chart::MOVES];
@@ -146,39 +150,39 @@ pub fn resting_rows() {
         &mut froms,
         &mut tos,
     );
-    bytes(b"  owners, one of rest", &owners, 4);
-    bytes(b"  costs", &costs, 4);
-    numbers(b"  froms", &froms, 4);
-    numbers(b"  tos", &tos, 4);
+    bytes(rt, b"  owners, one of rest", &owners, 4)?;
+    bytes(rt, b"  costs", &costs, 4)?;
+    numbers(rt, b"  froms", &froms, 4)?;
+    numbers(rt, b"  tos", &tos, 4)
 }
 
 // The first `count` numbers of a row.
-fn bytes(name: &[u8], row: &[u8], count: usize) {
+fn bytes(rt: &impl Print, name: &[u8], row: &[u8], count: usize) -> io::Result<()> {
     let mut i = 0;
     while i < count {
         if i < row.len() {
-            print_byte(row[i]);
+            print_byte(rt, row[i])?;
         }
         i += 1;
     }
-    writer::name(name);
+    writer::name(rt, name)
 }
 
-fn numbers(name: &[u8], row: &[u16], count: usize) {
+fn numbers(rt: &impl Print, name: &[u8], row: &[u16], count: usize) -> io::Result<()> {
     let mut i = 0;
     while i < count {
         if i < row.len() {
-            print_number(row[i]);
+            print_number(rt, row[i])?;
         }
         i += 1;
     }
-    writer::name(name);
+    writer::name(rt, name)
 }
 
-fn print_byte(x: u8) {
-    io::print_decimal(1, x as u64);
+fn print_byte(rt: &impl Print, x: u8) -> io::Result<()> {
+    rt.print(x)
 }
 
-fn print_number(x: u16) {
-    io::print_decimal(1, x as u64);
+fn print_number(rt: &impl Print, x: u16) -> io::Result<()> {
+    rt.print(x)
 }

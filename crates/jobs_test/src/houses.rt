@@ -10,6 +10,7 @@ use crate::{runs, writer};
 use field::read;
 use house::{House, Housed, drive};
 use run::{Run, Started};
+use std::io;
 
 pub type Lanes = [Run; Run::LANES];
 
@@ -20,34 +21,42 @@ pub fn empty() -> Lanes {
 
 // A step's answer and name, and the lanes after it.
 pub fn show(
+    rt: &impl Print,
     chart: &[u8],
     plate: &[u8],
     words: &[u8],
     name: &[u8],
     run: Run,
     lanes: Lanes,
-) -> Lanes {
-    let after = step(chart, plate, words, run, lanes);
-    io::write_all(1, b"  ");
-    writer::name(name);
-    show_lanes(after);
-    after
+) -> io::Result<Lanes> {
+    let after = step(rt, chart, plate, words, run, lanes)?;
+    rt.write_all(b"  ")?;
+    writer::name(rt, name)?;
+    show_lanes(rt, after)?;
+    Ok(after)
 }
 
-fn step(chart: &[u8], plate: &[u8], words: &[u8], run: Run, lanes: Lanes) -> Lanes {
+fn step(
+    rt: &impl Print,
+    chart: &[u8],
+    plate: &[u8],
+    words: &[u8],
+    run: Run,
+    lanes: Lanes,
+) -> io::Result<Lanes> {
     if words.len() < 6 {
-        return lanes;
+        return Ok(lanes);
     }
     if words[0] == b'S' {
-        io::write_all(1, b"S");
-        return start(chart, plate, words);
+        rt.write_all(b"S")?;
+        return Ok(start(chart, plate, words));
     }
     let x = number(read(words, 1));
     if words[0] == b'P' {
-        io::write_all(1, b"P");
-        return put(lanes, x, run);
+        rt.write_all(b"P")?;
+        return Ok(put(lanes, x, run));
     }
-    report(chart, plate, x, &words[6..], lanes)
+    report(rt, chart, plate, x, &words[6..], lanes)
 }
 
 fn start(chart: &[u8], plate: &[u8], words: &[u8]) -> Lanes {
@@ -81,47 +90,57 @@ fn put(lanes: Lanes, lane: usize, run: Run) -> Lanes {
     after
 }
 
-fn report(chart: &[u8], plate: &[u8], count: usize, fields: &[u8], lanes: Lanes) -> Lanes {
+fn report(
+    rt: &impl Print,
+    chart: &[u8],
+    plate: &[u8],
+    count: usize,
+    fields: &[u8],
+    lanes: Lanes,
+) -> io::Result<Lanes> {
     let mut row = [0u16; 66];
     fill_row(fields, &mut row);
-    answer(drive(lanes, count, part(&row, fields.len() / 5), chart, plate))
+    answer(
+        rt,
+        drive(lanes, count, part(&row, fields.len() / 5), chart, plate),
+    )
 }
 
-fn answer(house: House) -> Lanes {
+fn answer(rt: &impl Print, house: House) -> io::Result<Lanes> {
     let lanes = house.runs;
     let answer = house.answer;
     match answer {
         Housed::Moved(count) => {
-            io::write_all(1, b"A");
-            runs::show(count as u64);
+            rt.write_all(b"A")?;
+            runs::show(rt, count as u64)?;
         }
         Housed::Refused(lane, refusal) => {
-            runs::refused(refusal);
-            io::write_all(1, b" at");
-            runs::show(lane as u64);
+            runs::refused(rt, refusal)?;
+            rt.write_all(b" at")?;
+            runs::show(rt, lane as u64)?;
         }
     }
-    io::write_all(1, b" of");
-    runs::show(house.written as u64);
-    lanes
+    rt.write_all(b" of")?;
+    runs::show(rt, house.written as u64)?;
+    Ok(lanes)
 }
 
-fn show_lanes(lanes: Lanes) {
+fn show_lanes(rt: &impl Print, lanes: Lanes) -> io::Result<()> {
     let mut lane: usize = 0;
     while lane < Run::LANES {
-        show_lane(lane, lanes[lane]);
+        show_lane(rt, lane, lanes[lane])?;
         lane += 1;
     }
-    io::write_all(1, b"\n");
+    rt.write_all(b"\n")
 }
 
-fn show_lane(lane: usize, run: Run) {
+fn show_lane(rt: &impl Print, lane: usize, run: Run) -> io::Result<()> {
     let nowhere = run.position() == 18446744073709551615;
     if nowhere & (run.seen() == 0) & (run.initial() == 0) & (run.value() == 0) {
-        return;
+        return Ok(());
     }
-    io::write_all(1, b"  ");
-    io::print_decimal(1, lane as u64);
-    io::write_all(1, b":");
-    runs::show_run(run);
+    rt.write_all(b"  ")?;
+    rt.print(lane)?;
+    rt.write_all(b":")?;
+    runs::show_run(rt, run)
 }

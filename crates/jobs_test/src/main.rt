@@ -9,8 +9,9 @@ ghost use Rattle.std.specs.Prelude.{length};
 
 use crate::houses::Lanes;
 use cases::{Case, case_at};
-use libc::STDIN_FILENO;
+use input::read_full;
 use run::Run;
+use std::io;
 
 mod charts;
 mod houses;
@@ -36,20 +37,20 @@ struct Held {
     lanes: Lanes,
 }
 
-// The input has more bytes than io's large buffer.
-fn main() {
+// The input is longer than 65,536 bytes.
+fn main(rt: HostRuntime) -> io::Result<()> {
     let mut input = [0u8; 262144];
-    let got = io::read_full(STDIN_FILENO, &mut input);
-    cases(&input[..got]);
-    charts::longest();
-    charts::rows();
-    charts::resting_rows();
-    plates::rows();
-    sheets::longest();
+    let got = read_full(&mut rt.stdin(), &mut input)?;
+    cases(&rt, &input[..got])?;
+    charts::longest(&rt)?;
+    charts::rows(&rt)?;
+    charts::resting_rows(&rt)?;
+    plates::rows(&rt)?;
+    sheets::longest(&rt)
 }
 
 // The cases of the input, of which there are fewer than 2,000.
-fn cases(input: &[u8]) {
+fn cases(rt: &impl Print, input: &[u8]) -> io::Result<()> {
     let mut at: usize = 0;
     let mut held = Held {
         run: Run::none(),
@@ -57,15 +58,16 @@ fn cases(input: &[u8]) {
     };
     let mut k: usize = 0;
     while k < 2000 {
-        let next = show_case(input, case_at(input, at), held);
+        let next = show_case(rt, input, case_at(input, at), held)?;
         at = next.at;
         held = next.held;
         k += 1;
     }
+    Ok(())
 }
 
 // Shows a case. Past the input's end it shows nothing.
-fn show_case(input: &[u8], c: Case, held: Held) -> Next
+fn show_case(rt: &impl Print, input: &[u8], c: Case, held: Held) -> io::Result<Next>
     requires { Ordered (length input.now) c }
 {
     let name = c.name;
@@ -74,81 +76,96 @@ fn show_case(input: &[u8], c: Case, held: Held) -> Next
     let third = c.third;
     let end = c.end;
     if input.len() <= end {
-        return Next {
+        return Ok(Next {
             at: input.len(),
             held,
-        };
+        });
     }
     let after = show(
+        rt,
         &input[name..first],
         &input[first..second],
         &input[second..third],
         &input[third..end],
         held,
-    );
-    Next {
+    )?;
+    Ok(Next {
         at: end + 1,
         held: after,
-    }
+    })
 }
 
 // The answer and the name; a plate, a sheet or lanes stand under its name. Answers what is held after the case.
-fn show(name: &[u8], chart: &[u8], plate: &[u8], words: &[u8], held: Held) -> Held {
+fn show(
+    rt: &impl Print,
+    name: &[u8],
+    chart: &[u8],
+    plate: &[u8],
+    words: &[u8],
+    held: Held,
+) -> io::Result<Held> {
     if name.len() == 0 {
-        return held;
+        return Ok(held);
     }
     let job = name[0];
     let run = held.run;
     let lanes = held.lanes;
     if job == b'W' {
-        writer::name(&name[1..]);
-        charts::respond(chart);
-        return held;
+        writer::name(rt, &name[1..])?;
+        charts::respond(rt, chart)?;
+        return Ok(held);
     }
     if job == b'G' {
-        sheets::list(chart, words, &name[1..]);
-        return held;
+        sheets::list(rt, chart, words, &name[1..])?;
+        return Ok(held);
     }
     if job == b'P' {
-        ways::list(chart, plate, words, &name[1..]);
-        return held;
+        ways::list(rt, chart, plate, words, &name[1..])?;
+        return Ok(held);
     }
     if job == b'V' {
-        values::show(chart, words, &name[1..]);
-        return held;
+        values::show(rt, chart, words, &name[1..])?;
+        return Ok(held);
     }
     if job == b'N' {
-        small::generate(words, &name[1..]);
-        return held;
+        small::generate(rt, words, &name[1..])?;
+        return Ok(held);
     }
     if job == b'H' {
-        let lanes = houses::show(chart, plate, words, &name[1..], run, lanes);
-        return Held { run, lanes };
+        let lanes = houses::show(rt, chart, plate, words, &name[1..], run, lanes)?;
+        return Ok(Held { run, lanes });
     }
-    let run = answer(job, chart, plate, words, run);
-    io::write_all(1, b"  ");
-    writer::name(&name[1..]);
-    Held { run, lanes }
+    let run = answer(rt, job, chart, plate, words, run)?;
+    rt.write_all(b"  ")?;
+    writer::name(rt, &name[1..])?;
+    Ok(Held { run, lanes })
 }
 
-fn answer(job: u8, chart: &[u8], plate: &[u8], words: &[u8], run: Run) -> Run {
+fn answer(
+    rt: &impl Print,
+    job: u8,
+    chart: &[u8],
+    plate: &[u8],
+    words: &[u8],
+    run: Run,
+) -> io::Result<Run> {
     if job == b'S' {
-        return runs::step(chart, plate, words, run);
+        return runs::step(rt, chart, plate, words, run);
     }
     if job == b'E' {
-        charts::examine(chart);
+        charts::examine(rt, chart)?;
     }
     if job == b'C' {
-        plates::check(chart, plate);
+        plates::check(rt, chart, plate)?;
     }
     if job == b'R' {
-        plates::read(chart, plate);
+        plates::read(rt, chart, plate)?;
     }
     if job == b'D' {
-        plates::compare(chart, plate, words);
+        plates::compare(rt, chart, plate, words)?;
     }
     if job == b'I' {
-        small::index(chart);
+        small::index(rt, chart)?;
     }
-    run
+    Ok(run)
 }

@@ -5,17 +5,24 @@
 use field::{Field, read};
 use refusal::Refusal;
 use run::{Advice, Answer, Run, Started};
+use std::io;
 
 // The answer to a step, and the run after it.
-pub fn step(chart: &[u8], plate: &[u8], words: &[u8], run: Run) -> Run {
+pub fn step(
+    rt: &impl Print,
+    chart: &[u8],
+    plate: &[u8],
+    words: &[u8],
+    run: Run,
+) -> io::Result<Run> {
     if words.len() < 6 {
-        return run;
+        return Ok(run);
     }
     let to = number(read(words, 1));
     if words[0] == b'S' {
-        return start(chart, plate, to);
+        return start(rt, chart, plate, to);
     }
-    report(turned(words, run, chart, plate, to), chart, plate, to)
+    report(rt, turned(words, run, chart, plate, to), chart, plate, to)
 }
 
 // The run that a report is of: the one left, after the turns that the step's fields ask for.
@@ -50,58 +57,59 @@ pub fn number(f: Field) -> usize {
 }
 
 // A start's answer; the run that began, or none.
-fn start(chart: &[u8], plate: &[u8], position: usize) -> Run {
+fn start(rt: &impl Print, chart: &[u8], plate: &[u8], position: usize) -> io::Result<Run> {
     match Run::start(chart, plate, position) {
-        Started::Begun(run, advice) => taken(run, advice),
+        Started::Begun(run, advice) => taken(rt, run, advice),
         Started::Refused(refusal) => {
-            refused(refusal);
-            Run::none()
+            refused(rt, refusal)?;
+            Ok(Run::none())
         }
     }
 }
 
 // A report's answer, and the run that it hands back.
-fn report(run: Run, chart: &[u8], plate: &[u8], to: usize) -> Run {
+fn report(rt: &impl Print, run: Run, chart: &[u8], plate: &[u8], to: usize) -> io::Result<Run> {
     let r = run.report(chart, plate, to);
     let after = r.run;
     let answer = r.answer;
     match answer {
-        Answer::Taken(advice) => taken(after, advice),
+        Answer::Taken(advice) => taken(rt, after, advice),
         Answer::Refused(refusal) => {
-            refused(refusal);
-            show_run(after);
-            after
+            refused(rt, refusal)?;
+            show_run(rt, after)?;
+            Ok(after)
         }
     }
 }
 
-fn taken(run: Run, advice: Advice) -> Run {
-    io::write_all(1, b"A");
-    show_run(run);
-    show(advice.choice as u64);
-    show(advice.value as u64);
-    run
+fn taken(rt: &impl Print, run: Run, advice: Advice) -> io::Result<Run> {
+    rt.write_all(b"A")?;
+    show_run(rt, run)?;
+    show(rt, advice.choice as u64)?;
+    show(rt, advice.value as u64)?;
+    Ok(run)
 }
 
-pub fn refused(refusal: Refusal) {
+pub fn refused(rt: &impl Print, refusal: Refusal) -> io::Result<()> {
     let r = refusal.numbers();
-    io::write_all(1, b"R");
-    show(r.number as u64);
-    show(r.line as u64);
+    rt.write_all(b"R")?;
+    show(rt, r.number as u64)?;
+    show(rt, r.line as u64)?;
     if r.number == 14 {
-        show(r.position as u64);
-        show(r.condition as u64);
+        show(rt, r.position as u64)?;
+        show(rt, r.condition as u64)?;
     }
+    Ok(())
 }
 
-pub fn show_run(run: Run) {
-    show(run.position() as u64);
-    show(run.seen() as u64);
-    show(run.initial() as u64);
-    show(run.value() as u64);
+pub fn show_run(rt: &impl Print, run: Run) -> io::Result<()> {
+    show(rt, run.position() as u64)?;
+    show(rt, run.seen() as u64)?;
+    show(rt, run.initial() as u64)?;
+    show(rt, run.value() as u64)
 }
 
-pub fn show(x: u64) {
-    io::write_all(1, b" ");
-    io::print_decimal(1, x);
+pub fn show(rt: &impl Print, x: u64) -> io::Result<()> {
+    rt.write_all(b" ")?;
+    rt.print(x)
 }

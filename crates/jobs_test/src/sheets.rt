@@ -3,28 +3,35 @@ use crate::charts::fill;
 use crate::writer;
 use field::Field;
 use listing::{Listed, list_good_moves};
+use std::io;
 
 // `A` with the count of lines, or `R` with the number and the line of the refusal; under the name the whole lent buffer, which held `#`,
 // and a bar where it ends. Its length is the case's third text, a field.
-pub fn list(text: &[u8], words: &[u8], name: &[u8]) {
+pub fn list(rt: &impl Print, text: &[u8], words: &[u8], name: &[u8]) -> io::Result<()> {
     let mut buffer = [b'#'; 256];
-    list_into(text, &mut buffer, room(words), name);
+    list_into(rt, text, &mut buffer, room(words), name)
 }
 
 // The answer for so much of a buffer. A longer room gets none.
-fn list_into(text: &[u8], buffer: &mut [u8], room: usize, name: &[u8]) {
+fn list_into(
+    rt: &impl Print,
+    text: &[u8],
+    buffer: &mut [u8],
+    room: usize,
+    name: &[u8],
+) -> io::Result<()> {
     if buffer.len() < room {
-        return;
+        return Ok(());
     }
-    answer(list_good_moves(text, &mut buffer[0..room]));
-    show(name, &buffer[0..room]);
+    answer(rt, list_good_moves(text, &mut buffer[0..room]))?;
+    show(rt, name, &buffer[0..room])
 }
 
 // A name, and under it a lent buffer, with a bar where it ends.
-pub fn show(name: &[u8], lent: &[u8]) {
-    writer::name(name);
-    io::write_all(1, lent);
-    io::write_all(1, b"|\n");
+pub fn show(rt: &impl Print, name: &[u8], lent: &[u8]) -> io::Result<()> {
+    writer::name(rt, name)?;
+    rt.write_all(lent)?;
+    rt.write_all(b"|\n")
 }
 
 // The field's number, or more than any buffer has.
@@ -39,43 +46,55 @@ pub fn room(words: &[u8]) -> usize {
     }
 }
 
-fn answer(r: Listed) {
+fn answer(rt: &impl Print, r: Listed) -> io::Result<()> {
     match r {
         Listed::Lines(count) => {
-            io::write_all(1, b"A");
-            writer::field(count);
+            rt.write_all(b"A")?;
+            writer::field(rt, count)?;
         }
         Listed::Refused(f) => {
             let r = f.numbers();
-            io::write_all(1, b"R");
-            writer::field(r.number as usize);
-            writer::field(r.line);
+            rt.write_all(b"R")?;
+            writer::field(rt, r.number as usize)?;
+            writer::field(rt, r.line)?;
         }
     }
-    io::write_all(1, b"  ");
+    rt.write_all(b"  ")
 }
 
 // The longest sheet: all 4,096 moves of the longest chart are good.
-pub fn longest() {
-    let mut text = io::large_buffer();
+pub fn longest(rt: &impl Print) -> io::Result<()> {
+    let mut text = [0u8; 65536];
     fill(&mut text, 512, 4096);
-    let mut sheet = io::large_buffer();
-    longest_into(&text, &mut sheet, 49151, b"the longest sheet, a byte short");
-    longest_into(&text, &mut sheet, 49152, b"the longest sheet");
+    let mut sheet = [0u8; 65536];
+    longest_into(
+        rt,
+        &text,
+        &mut sheet,
+        49151,
+        b"the longest sheet, a byte short",
+    )?;
+    longest_into(rt, &text, &mut sheet, 49152, b"the longest sheet")
 }
 
 // The answer, and how many of the sheet's bytes are as the chart has them.
-fn longest_into(text: &[u8], sheet: &mut [u8], room: usize, name: &[u8]) {
+fn longest_into(
+    rt: &impl Print,
+    text: &[u8],
+    sheet: &mut [u8],
+    room: usize,
+    name: &[u8],
+) -> io::Result<()> {
     if text.len() < 55308 {
-        return;
+        return Ok(());
     }
     if sheet.len() < room {
-        return;
+        return Ok(());
     }
-    answer(list_good_moves(&text[0..55308], &mut sheet[0..room]));
-    writer::field(same(text, sheet));
-    io::write_all(1, b"  ");
-    writer::name(name);
+    answer(rt, list_good_moves(&text[0..55308], &mut sheet[0..room]))?;
+    writer::field(rt, same(text, sheet))?;
+    rt.write_all(b"  ")?;
+    writer::name(rt, name)
 }
 
 // The chart's moves stand from line 513 on. A line of the sheet has another letter.

@@ -5,22 +5,24 @@ use crate::{runs, writer};
 use field::read;
 use generating::write_small_chart;
 use indexing::{Indexed, index_small_chart};
+use std::io;
 use writing::Written;
 
 // `A` with the length, or the refusal with its four numbers; under the name the whole lent buffer. The case's third text has the count of
 // positions, the index in two fields, its hundred thousands and the rest, and the buffer's length. `max` is the largest number.
-pub fn generate(words: &[u8], name: &[u8]) {
+pub fn generate(rt: &impl Print, words: &[u8], name: &[u8]) -> io::Result<()> {
     let mut buffer = [b'#'; 288];
     if words.len() < 20 {
-        return;
+        return Ok(());
     }
     generate_into(
+        rt,
         number(read(words, 0)),
         joined(number(read(words, 5)), number(read(words, 10))),
         &mut buffer,
         room(&words[15..]),
         name,
-    );
+    )
 }
 
 // A number in two fields.
@@ -32,32 +34,43 @@ fn joined(thousands: usize, rest: usize) -> usize {
 }
 
 // The answer for so much of a buffer. A longer room gets none.
-fn generate_into(positions: usize, index: usize, buffer: &mut [u8], room: usize, name: &[u8]) {
+fn generate_into(
+    rt: &impl Print,
+    positions: usize,
+    index: usize,
+    buffer: &mut [u8],
+    room: usize,
+    name: &[u8],
+) -> io::Result<()> {
     if buffer.len() < room {
-        return;
+        return Ok(());
     }
-    answer(write_small_chart(positions, index, &mut buffer[0..room]));
-    show(name, &buffer[0..room]);
+    answer(
+        rt,
+        write_small_chart(positions, index, &mut buffer[0..room]),
+    )?;
+    show(rt, name, &buffer[0..room])
 }
 
-fn answer(r: Written) {
+fn answer(rt: &impl Print, r: Written) -> io::Result<()> {
     match r {
         Written::Length(length) => {
-            io::write_all(1, b"A");
-            writer::field(length);
+            rt.write_all(b"A")?;
+            writer::field(rt, length)?;
         }
-        Written::Refused(refusal) => writer::refused(refusal),
+        Written::Refused(refusal) => writer::refused(rt, refusal)?,
     }
-    io::write_all(1, b"  ");
+    rt.write_all(b"  ")
 }
 
 // `A` with the index, or the refusal with its four numbers.
-pub fn index(text: &[u8]) {
+pub fn index(rt: &impl Print, text: &[u8]) -> io::Result<()> {
     match index_small_chart(text) {
         Indexed::Index(x) => {
-            io::write_all(1, b"A");
-            runs::show(x as u64);
+            rt.write_all(b"A")?;
+            runs::show(rt, x as u64)?;
         }
-        Indexed::Refused(refusal) => writer::refused(refusal),
+        Indexed::Refused(refusal) => writer::refused(rt, refusal)?,
     }
+    Ok(())
 }

@@ -6,49 +6,61 @@ use crate::writer;
 use field::read;
 use listing::Listed;
 use ruin::list_way_to_ruin;
+use std::io;
 
 // `A` with the count of lines, or the refusal with its four numbers; under the name the whole lent buffer. The case's second text has the
 // choices, a field for each, and its third the position and the buffer's length. `max` is the largest position.
-pub fn list(text: &[u8], fields: &[u8], words: &[u8], name: &[u8]) {
+pub fn list(
+    rt: &impl Print,
+    text: &[u8],
+    fields: &[u8],
+    words: &[u8],
+    name: &[u8],
+) -> io::Result<()> {
     let mut row = [0u16; 66];
     let mut buffer = [b'#'; 256];
     if words.len() < 10 {
-        return;
+        return Ok(());
     }
     fill_row(fields, &mut row);
     list_into(
+        rt,
         text,
         part(&row, fields.len() / 5),
         number(read(words, 0)),
         &mut buffer,
         room(&words[5..]),
         name,
-    );
+    )
 }
 
 // The answer for so much of a buffer. A longer room gets none.
 fn list_into(
+    rt: &impl Print,
     text: &[u8],
     choices: &[u16],
     position: usize,
     buffer: &mut [u8],
     room: usize,
     name: &[u8],
-) {
+) -> io::Result<()> {
     if buffer.len() < room {
-        return;
+        return Ok(());
     }
-    answer(list_way_to_ruin(text, choices, position, &mut buffer[0..room]));
-    show(name, &buffer[0..room]);
+    answer(
+        rt,
+        list_way_to_ruin(text, choices, position, &mut buffer[0..room]),
+    )?;
+    show(rt, name, &buffer[0..room])
 }
 
-fn answer(r: Listed) {
+fn answer(rt: &impl Print, r: Listed) -> io::Result<()> {
     match r {
         Listed::Lines(count) => {
-            io::write_all(1, b"A");
-            writer::field(count);
+            rt.write_all(b"A")?;
+            writer::field(rt, count)?;
         }
-        Listed::Refused(refusal) => writer::refused(refusal),
+        Listed::Refused(refusal) => writer::refused(rt, refusal)?,
     }
-    io::write_all(1, b"  ");
+    rt.write_all(b"  ")
 }

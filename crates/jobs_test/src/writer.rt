@@ -1,40 +1,49 @@
 // What the test writes: a letter and numbers in columns of five or six bytes, and a case's name.
 use refusal::Refusal;
+use std::io;
 
-pub fn name(name: &[u8]) {
-    io::write_all(1, name);
-    io::write_all(1, b"\n");
+pub fn name(rt: &impl Print, name: &[u8]) -> io::Result<()> {
+    rt.write_all(name)?;
+    rt.write_all(b"\n")
 }
 
 // A number in five bytes.
-pub fn field(x: usize) {
+pub fn field(rt: &impl Print, x: usize) -> io::Result<()> {
     let mut out = [b' '; 5];
     field::write((x % 100000) as u32, &mut out, 0);
-    io::write_all(1, &out);
+    rt.write_all(&out)
 }
 
 // A number in six.
-pub fn column(x: usize) {
-    io::write_all(1, b" ");
-    field(x);
+pub fn column(rt: &impl Print, x: usize) -> io::Result<()> {
+    rt.write_all(b" ")?;
+    field(rt, x)
 }
 
-pub fn four(letter: &[u8], a: usize, b: usize, c: usize, d: usize) {
-    io::write_all(1, letter);
-    field(a);
-    field(b);
-    field(c);
-    field(d);
+pub fn four(
+    rt: &impl Print,
+    letter: &[u8],
+    a: usize,
+    b: usize,
+    c: usize,
+    d: usize,
+) -> io::Result<()> {
+    rt.write_all(letter)?;
+    field(rt, a)?;
+    field(rt, b)?;
+    field(rt, c)?;
+    field(rt, d)
 }
 
 // A refusal with its number, line, position and condition.
-pub fn refused(refusal: Refusal) {
+pub fn refused(rt: &impl Print, refusal: Refusal) -> io::Result<()> {
     let r = refusal.numbers();
     four(
+        rt,
         b"R",
         r.number as usize,
         r.line,
         r.position,
         r.condition as usize,
-    );
+    )
 }

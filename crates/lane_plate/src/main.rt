@@ -2,14 +2,15 @@
 // the chart's columns.
 #![tactic(auto)]
 
-use libc::{STDIN_FILENO, STDOUT_FILENO};
+use input::read_full;
 use rows::Chart;
+use std::io;
 
-fn main() {
+fn main(rt: HostRuntime) -> io::Result<()> {
     // One byte more than the longest chart, so that a longer input is seen to be longer.
     let mut text = [0u8; Chart::BYTES + 1];
-    let got = io::read_full(STDIN_FILENO, &mut text);
+    let got = read_full(&mut rt.stdin(), &mut text)?;
     let mut out = [0u8; 11286];
     let size = response::respond(&text[..got], &mut out);
-    io::write_all(STDOUT_FILENO, &out[..size]);
+    rt.write_all(&out[..size])
 }

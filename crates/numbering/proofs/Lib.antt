@@ -1,4 +1,5 @@
--- What is proved of the definitions in specs/.
+-- Laws that callers cite: EverySmall (each small chart has one index), OrderLaws (indices rise in that order) and TextLaws (the lines of an
+-- index's chart). The others lead to them.
 pub mod SetLaws
 pub mod NumeralLaws
 pub mod DigitLaws

@@ -1,5 +1,5 @@
 -- The order of small charts, in the request's words: "Position 0 is the leading digit. Within a position O comes before L, then the mark, then
--- the meant set, then the disturbance set". That indices rise in this order is shown in specs/OrderLaws.antt.
+-- the meant set, then the disturbance set". That indices rise in this order is shown in proofs/OrderLaws.antt.
 use Rattle.std.specs.Prelude.{ℕ, ◌<◌, ◌≡◌, ◌⊎◌}
 use Rattle.game.specs.Arena.{Arena, controller, environment, size, owner_at, position_at}
 use Rattle.numbering.specs.Numbering.{target_set}

@@ -1,6 +1,6 @@
 -- A chart held as squares: owners and marks, and for each pair of positions whether a meant move joins it and whether a disturbance does
 -- ("A generated chart is held as a square of yes and no for meant moves and another for disturbances"); its arena; and the squares of an
--- index, digit by digit. That these undo the numbering is shown in specs/EverySmall.antt.
+-- index, digit by digit. That these undo the numbering is shown in proofs/EverySmall.antt.
 use Rattle.std.specs.Prelude.{ℕ, zero, suc, ◌+◌, ◌-◌, ◌/◌, ◌%◌, ◌^◌, Bool, cond, not, List, [], ◌∷◌, ◌++◌, eqb, ltb}
 use Rattle.search.specs.Below.{bit}
 use Rattle.line.specs.Joined.{joined, on_lines}

@@ -14,6 +14,7 @@ use reference::tally::{Tally, add, expect};
 use reference::text::{Page, part, write_chart, write_plate};
 use refusal::Numbers;
 use run::Run;
+use std::io;
 
 // What is counted, in the order in which it is written: houses; rows accepted and the lanes that they moved; rows refused with 20, for the chart,
 // with 11, 14, 13, 18 and 15; and those refused though another lane could move.
@@ -43,25 +44,33 @@ struct Due {
 }
 
 // A house of 64 runs that begin on the first chart, and six rows of reports.
-pub fn compare_house(first: Card, second: Card, seed: &mut usize, tally: &mut Tally) {
+pub fn compare_house(
+    rt: &impl Print,
+    first: Card,
+    second: Card,
+    seed: &mut usize,
+    tally: &mut Tally,
+) -> io::Result<()> {
     let mut lanes = [Run::none(); 64];
     let mut i: usize = 0;
     while i < 7 {
-        let after = turn(lanes, i == 0, first, second, seed, tally);
+        let after = turn(rt, lanes, i == 0, first, second, seed, tally)?;
         lanes = after;
         i += 1;
     }
+    Ok(())
 }
 
 // The starts, or a row of reports: three of four are of the first chart.
 fn turn(
+    rt: &impl Print,
     lanes: Lanes,
     begins: bool,
     first: Card,
     second: Card,
     seed: &mut usize,
     tally: &mut Tally,
-) -> Lanes {
+) -> io::Result<Lanes> {
     let mut chart = [0usize; 32768];
     let mut table = [0usize; 4096];
     let mut page = [b'#'; 65536];
@@ -75,7 +84,7 @@ fn turn(
     lend(&mut chart, &mut table, card, way, seed);
     // Without a move it is no chart.
     if cell(&chart, RIGHT, 0) == 0 {
-        return lanes;
+        return Ok(lanes);
     }
     let length = write_plate(&mut plate, &table, positions(&chart));
     if way == ANOTHERS {
@@ -84,12 +93,13 @@ fn turn(
     let size = write_chart(&mut page, &chart);
     if begins {
         add(tally, HOUSES, 1);
-        return start_lanes(&chart, part(&page, size), part(&plate, length), seed);
+        return Ok(start_lanes(&chart, part(&page, size), part(&plate, length), seed));
     }
     let row = draw_row(&chart, &table, lanes, seed);
     damage(&mut page, size, seed);
     damage(&mut plate, length, seed);
     compare_row(
+        rt,
         lanes,
         &row,
         part(&page, size),
@@ -167,13 +177,14 @@ fn draw_move(chart: &Chart, table: &Table, v: usize, seed: &mut usize) -> usize 
 
 // The library's answer beside what is due. Once in sixteen the rows may be of unequal length.
 fn compare_row(
+    rt: &impl Print,
     lanes: Lanes,
     row: &Row,
     text: &[u8],
     plate: &[u8],
     seed: &mut usize,
     tally: &mut Tally,
-) -> Lanes {
+) -> io::Result<Lanes> {
     let count = draw_count(seed);
     let reports = if below(seed, 16) == 0 {
         draw_count(seed)
@@ -183,8 +194,8 @@ fn compare_row(
     let due = answer_due(lanes, count, reports, row, text, plate);
     let house = drive(lanes, count, front(row, reports), text, plate);
     count_row(due, tally);
-    expect(same_house(house, due), b"a house", text, tally);
-    house.runs
+    expect(rt, same_house(house, due), b"a house", text, tally)?;
+    Ok(house.runs)
 }
 
 // One to four lanes, or once in four from none to 65.

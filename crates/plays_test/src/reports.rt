@@ -12,6 +12,7 @@ use reference::tally::{Tally, add, expect};
 use reference::text::{part, write_chart, write_plate};
 use refusal::Numbers;
 use run::{Advice, Answer, Reported, Run, Started};
+use std::io;
 
 // What is counted, in the order in which it is written: runs begun and not begun; reports that were taken as meant and as disturbances, and
 // refused with 13, 14, 18 and 15; and those taken that were lent other texts than the step taken before.
@@ -73,17 +74,24 @@ struct Due {
 }
 
 // A run that begins on the first chart, and twelve reports.
-pub fn compare_run(first: Card, second: Card, seed: &mut usize, tally: &mut Tally) {
-    let mut followed = start(first, seed, tally);
+pub fn compare_run(
+    rt: &impl Print,
+    first: Card,
+    second: Card,
+    seed: &mut usize,
+    tally: &mut Tally,
+) -> io::Result<()> {
+    let mut followed = start(rt, first, seed, tally)?;
     let mut i: usize = 0;
     while i < 12 {
-        followed = report(followed, first, second, below(seed, 12), seed, tally);
+        followed = report(rt, followed, first, second, below(seed, 12), seed, tally)?;
         i += 1;
     }
+    Ok(())
 }
 
 // The start: once in sixteen on a wrong plate.
-fn start(card: Card, seed: &mut usize, tally: &mut Tally) -> Followed {
+fn start(rt: &impl Print, card: Card, seed: &mut usize, tally: &mut Tally) -> io::Result<Followed> {
     let mut chart = [0usize; 32768];
     let mut table = [0usize; 4096];
     let way = if below(seed, 16) == 0 { WRONG } else { OWN };
@@ -95,10 +103,10 @@ fn start(card: Card, seed: &mut usize, tally: &mut Tally) -> Followed {
     lend(&mut chart, &mut table, card, way, seed);
     // Without a move it is no chart.
     if cell(&chart, RIGHT, 0) == 0 {
-        return none;
+        return Ok(none);
     }
     let position = draw_start(&chart, seed);
-    compare_step(&chart, &table, none, true, position, way, tally)
+    compare_step(rt, &chart, &table, none, true, position, way, tally)
 }
 
 // A position, or once in sixteen the first number that is none.
@@ -113,23 +121,25 @@ pub fn draw_start(chart: &Chart, seed: &mut usize) -> usize {
 
 // A report with the texts of a number: eight of twelve are of the first chart.
 fn report(
+    rt: &impl Print,
     before: Followed,
     first: Card,
     second: Card,
     texts: usize,
     seed: &mut usize,
     tally: &mut Tally,
-) -> Followed {
+) -> io::Result<Followed> {
     let mut chart = [0usize; 32768];
     let mut table = [0usize; 4096];
     let card = if texts < 8 { first } else { second };
     lend(&mut chart, &mut table, card, texts % 4, seed);
     if cell(&chart, RIGHT, 0) == 0 {
-        return before;
+        return Ok(before);
     }
     let at = before.model.position;
     let to = draw_target(&chart, &table, at, seed);
     compare_step(
+        rt,
         &chart,
         &table,
         before,
@@ -203,6 +213,7 @@ pub fn draw_target(chart: &Chart, table: &Table, v: usize, seed: &mut usize) -> 
 
 // A start at a place, or a report of it: the library's answer beside what is due by the definitions.
 fn compare_step(
+    rt: &impl Print,
     chart: &Chart,
     table: &Table,
     before: Followed,
@@ -210,7 +221,7 @@ fn compare_step(
     place: usize,
     texts: usize,
     tally: &mut Tally,
-) -> Followed {
+) -> io::Result<Followed> {
     let mut page = [b'#'; 65536];
     let mut plate = [b'#'; 65536];
     let size = write_chart(&mut page, chart);
@@ -220,16 +231,22 @@ fn compare_step(
     let due = answer_due(chart, table, from, begins, place);
     let step = answer(before.run, begins, text, part(&plate, length), place);
     count_step(due, from, begins, before.texts != texts, tally);
-    expect(same_step(step, due, table), b"a run", text, tally);
-    expect(sustained(chart, due), b"what a run promises", text, tally);
+    expect(rt, same_step(step, due, table), b"a run", text, tally)?;
+    expect(
+        rt,
+        sustained(chart, due),
+        b"what a run promises",
+        text,
+        tally,
+    )?;
     let run = step.run;
     let model = due.model;
     let last = if due.number == 0 { texts } else { before.texts };
-    Followed {
+    Ok(Followed {
         run,
         model,
         texts: last,
-    }
+    })
 }
 
 fn answer(run: Run, begins: bool, text: &[u8], plate: &[u8], place: usize) -> Step {

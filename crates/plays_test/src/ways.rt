@@ -12,6 +12,7 @@ use reference::sheet::{
 use reference::tally::{Tally, add, expect};
 use reference::text::{Page, lines_of, part, put_numbers, same_pages, write_damaged};
 use ruin::list_way_to_ruin;
+use std::io;
 
 // What is counted, in the order in which it is written: ways taken, of 0, 1 and more disturbances; those among them that have another unsafe
 // play with as many disturbances and more moves, and with as many of both; refusals for the chart, with 10 for the row, 12, 13, 19 and 10 for
@@ -37,22 +38,35 @@ struct Question {
 }
 
 // Questions about a chart of a kind, numbered from 0. Of up to two positions the first 16 are every controller from every number below 4.
-pub fn compare_ways(kind: usize, number: usize, seed: &mut usize, tally: &mut Tally) {
+pub fn compare_ways(
+    rt: &impl Print,
+    kind: usize,
+    number: usize,
+    seed: &mut usize,
+    tally: &mut Tally,
+) -> io::Result<()> {
     let mut chart = [0usize; 32768];
     build(&mut chart, kind, number, seed);
     // Without a move it is no chart.
     if cell(&chart, RIGHT, 0) == 0 {
-        return;
+        return Ok(());
     }
     let mut k: usize = 0;
     while k < 24 {
-        compare_way(&chart, k, seed, tally);
+        compare_way(rt, &chart, k, seed, tally)?;
         k += 1;
     }
+    Ok(())
 }
 
 // The buffer has a byte less than the lines take, as many bytes, or up to 24 more. Question 15, whose way may be the longest, has as many.
-fn compare_way(chart: &Chart, k: usize, seed: &mut usize, tally: &mut Tally) {
+fn compare_way(
+    rt: &impl Print,
+    chart: &Chart,
+    k: usize,
+    seed: &mut usize,
+    tally: &mut Tally,
+) -> io::Result<()> {
     let mut page = [b'#'; 65536];
     let mut table = [0usize; 4096];
     let mut row = [4660u16; 512];
@@ -73,7 +87,7 @@ fn compare_way(chart: &Chart, k: usize, seed: &mut usize, tally: &mut Tally) {
     let same = same_answer(text, &row, question, room, &walk, answered);
     let through = get(&walk, NOTES, LENGTH) == 0;
     count_way(&walk, answered, tally);
-    expect(same & through, b"the way to ruin", text, tally);
+    expect(rt, same & through, b"the way to ruin", text, tally)
 }
 
 // Legal choices; from question 16 on one of them may be any number. Answers whether that is legal too: a meant target at O, none elsewhere.

@@ -1,4 +1,5 @@
 // Counts of what was compared, and the lines in which they are written.
+use std::io;
 
 // What is counted, in the order in which it is written; the eighteenth are the mismatches.
 pub type Tally = [usize; 19];
@@ -10,40 +11,49 @@ pub fn add(tally: &mut Tally, k: usize, x: usize) {
 }
 
 // Counts a comparison that failed, and shows its chart; only the first few are shown.
-pub fn expect(ok: bool, name: &[u8], text: &[u8], tally: &mut Tally) {
+pub fn expect(
+    rt: &impl Print,
+    ok: bool,
+    name: &[u8],
+    text: &[u8],
+    tally: &mut Tally,
+) -> io::Result<()> {
     if ok {
-        return;
+        return Ok(());
     }
     add(tally, MISMATCHES, 1);
     if tally[MISMATCHES] < 9 {
-        io::write_all(1, name);
-        io::write_all(1, b": not by the definitions\n");
-        io::write_all(1, text);
+        rt.write_all(name)?;
+        rt.write_all(b": not by the definitions\n")?;
+        rt.write_all(text)?;
     }
+    Ok(())
 }
 
 // A line: the first counts, the name, and the mismatches where there are some.
-pub fn report_line(tally: &Tally, counts: usize, name: &[u8]) {
-    report(tally, counts);
-    io::write_all(1, name);
-    report_count(b", mismatches: ", tally[MISMATCHES]);
-    io::write_all(1, b"\n");
+pub fn report_line(rt: &impl Print, tally: &Tally, counts: usize, name: &[u8]) -> io::Result<()> {
+    report(rt, tally, counts)?;
+    rt.write_all(name)?;
+    report_count(rt, b", mismatches: ", tally[MISMATCHES])?;
+    rt.write_all(b"\n")
 }
 
 // The first counts.
-pub fn report(tally: &Tally, counts: usize) {
+pub fn report(rt: &impl Print, tally: &Tally, counts: usize) -> io::Result<()> {
     let mut k: usize = 0;
     while k < counts {
-        io::print_decimal(1, tally[k % 19] as u64);
-        io::write_all(1, b" ");
+        rt.print(tally[k % 19])?;
+        rt.write_all(b" ")?;
         k += 1;
     }
+    Ok(())
 }
 
 // A count with its name, where it is not 0.
-pub fn report_count(name: &[u8], count: usize) {
+pub fn report_count(rt: &impl Print, name: &[u8], count: usize) -> io::Result<()> {
     if 0 < count {
-        io::write_all(1, name);
-        io::print_decimal(1, count as u64);
+        rt.write_all(name)?;
+        rt.print(count)?;
     }
+    Ok(())
 }

@@ -15,6 +15,7 @@ use reference::sheet::{
 use reference::tally::{Tally, add, expect};
 use reference::text::{part, same_pages, write_chart, write_plate};
 use refusal::Numbers;
+use std::io;
 use valuing::{Valued, value_chart, value_plain};
 use weighing::{Weighed, weigh_chart};
 
@@ -75,13 +76,18 @@ pub fn same_rows(
 }
 
 // All comparisons of one chart.
-pub fn compare_chart(chart: &Chart, seed: &mut usize, tally: &mut Tally) {
+pub fn compare_chart(
+    rt: &impl Print,
+    chart: &Chart,
+    seed: &mut usize,
+    tally: &mut Tally,
+) -> io::Result<()> {
     let mut page = [b'#'; 65536];
     let size = write_chart(&mut page, chart);
     let mut table = [0usize; 4096];
     solve(chart, &mut table);
     count_chart(chart, &table, tally);
-    compare_jobs(chart, &table, part(&page, size), seed, tally);
+    compare_jobs(rt, chart, &table, part(&page, size), seed, tally)
 }
 
 fn count_chart(chart: &Chart, table: &Table, tally: &mut Tally) {
@@ -112,21 +118,42 @@ fn checksum(table: &Table, n: usize) -> usize {
     sum
 }
 
-fn compare_jobs(chart: &Chart, table: &Table, text: &[u8], seed: &mut usize, tally: &mut Tally) {
-    compare_values(chart, table, text, tally);
-    compare_plate(chart, table, text, tally);
-    compare_check(chart, table, text, tally);
-    change_plates(chart, table, text, turns_of(positions(chart)), seed, tally);
-    weigh_controllers(chart, table, text, seed, tally);
-    compare_sheets(chart, table, text, tally);
+fn compare_jobs(
+    rt: &impl Print,
+    chart: &Chart,
+    table: &Table,
+    text: &[u8],
+    seed: &mut usize,
+    tally: &mut Tally,
+) -> io::Result<()> {
+    compare_values(rt, chart, table, text, tally)?;
+    compare_plate(rt, chart, table, text, tally)?;
+    compare_check(rt, chart, table, text, tally)?;
+    change_plates(
+        rt,
+        chart,
+        table,
+        text,
+        turns_of(positions(chart)),
+        seed,
+        tally,
+    )?;
+    weigh_controllers(rt, chart, table, text, seed, tally)?;
+    compare_sheets(rt, chart, table, text, tally)
 }
 
 // Valuing, the filed way and the plain one: three rows and the rounds.
-fn compare_values(chart: &Chart, table: &Table, text: &[u8], tally: &mut Tally) {
+fn compare_values(
+    rt: &impl Print,
+    chart: &Chart,
+    table: &Table,
+    text: &[u8],
+    tally: &mut Tally,
+) -> io::Result<()> {
     let filed = same_values(false, chart, table, text);
-    expect(filed, b"valuing", text, tally);
+    expect(rt, filed, b"valuing", text, tally)?;
     let plain = same_values(true, chart, table, text);
-    expect(plain, b"valuing the plain way", text, tally);
+    expect(rt, plain, b"valuing the plain way", text, tally)
 }
 
 fn same_values(plain: bool, chart: &Chart, table: &Table, text: &[u8]) -> bool {
@@ -153,25 +180,44 @@ fn rounds_of(answer: Valued) -> usize {
 }
 
 // Writing: the bytes and the length; then Reading of what was written.
-fn compare_plate(chart: &Chart, table: &Table, text: &[u8], tally: &mut Tally) {
+fn compare_plate(
+    rt: &impl Print,
+    chart: &Chart,
+    table: &Table,
+    text: &[u8],
+    tally: &mut Tally,
+) -> io::Result<()> {
     let mut page = [b'#'; 65536];
     let mut written = [b'#'; 65536];
     let size = write_plate(&mut page, table, positions(chart));
     let answer = length_of(writing::write_plate(text, &mut written));
     let same = same_pages(&page, &written, 65536);
-    expect(same & (answer == size), b"writing", text, tally);
-    compare_reading(chart, table, text, part(&written, size), tally);
+    expect(rt, same & (answer == size), b"writing", text, tally)?;
+    compare_reading(rt, chart, table, text, part(&written, size), tally)
 }
 
 // Reading: three rows and the first line's numbers.
-fn compare_reading(chart: &Chart, table: &Table, text: &[u8], plate: &[u8], tally: &mut Tally) {
+fn compare_reading(
+    rt: &impl Print,
+    chart: &Chart,
+    table: &Table,
+    text: &[u8],
+    plate: &[u8],
+    tally: &mut Tally,
+) -> io::Result<()> {
     let n = positions(chart);
     let mut values = [4660u16; 512];
     let mut choices = [4660u16; 512];
     let mut steps = [4660u16; 512];
     let answer = read_plate(text, plate, &mut values, &mut choices, &mut steps);
     let same = same_rows(table, n, &values, &choices, &steps);
-    expect(same & same_header(table, answer), b"reading", text, tally);
+    expect(
+        rt,
+        same & same_header(table, answer),
+        b"reading",
+        text,
+        tally,
+    )
 }
 
 fn same_header(table: &Table, answer: Reading) -> bool {
@@ -188,13 +234,19 @@ fn same_header(table: &Table, answer: Reading) -> bool {
 }
 
 // Checking: the plate of a table, good or bad.
-fn compare_check(chart: &Chart, table: &Table, text: &[u8], tally: &mut Tally) {
+fn compare_check(
+    rt: &impl Print,
+    chart: &Chart,
+    table: &Table,
+    text: &[u8],
+    tally: &mut Tally,
+) -> io::Result<()> {
     let mut page = [b'#'; 65536];
     let size = write_plate(&mut page, table, positions(chart));
     let answer = numbers_of(checking::check(text, part(&page, size)));
     let fault = first_fault(chart, table);
     add(tally, ACCEPTED + fault.condition % 7, 1);
-    expect(same_answer(answer, fault), b"checking", text, tally);
+    expect(rt, same_answer(answer, fault), b"checking", text, tally)
 }
 
 // Accepted, or 14 with position and condition.
@@ -218,29 +270,32 @@ fn turns_of(n: usize) -> usize {
 }
 
 fn change_plates(
+    rt: &impl Print,
     chart: &Chart,
     table: &Table,
     text: &[u8],
     turns: usize,
     seed: &mut usize,
     tally: &mut Tally,
-) {
+) -> io::Result<()> {
     let mut i = 0;
     while i < turns {
-        change_plate(chart, table, text, i, seed, tally);
+        change_plate(rt, chart, table, text, i, seed, tally)?;
         i += 1;
     }
+    Ok(())
 }
 
 // The i-th change of one entry; or one that is drawn, and every other time another one.
 fn change_plate(
+    rt: &impl Print,
     chart: &Chart,
     table: &Table,
     text: &[u8],
     i: usize,
     seed: &mut usize,
     tally: &mut Tally,
-) {
+) -> io::Result<()> {
     let n = positions(chart);
     let codes = n % 1024 * 6 + 6;
     let mut changed = *table;
@@ -250,69 +305,81 @@ fn change_plate(
         change(&mut changed, n, below(seed, codes));
         change(&mut changed, n, i % 2 * 8192 + below(seed, codes) % 8192);
     }
-    compare_check(chart, &changed, text, tally);
+    compare_check(rt, chart, &changed, text, tally)
 }
 
 // Weighing and Comparing: each positional controller of a chart of one or two positions, else four that are drawn.
 fn weigh_controllers(
+    rt: &impl Print,
     chart: &Chart,
     solved: &Table,
     text: &[u8],
     seed: &mut usize,
     tally: &mut Tally,
-) {
+) -> io::Result<()> {
     let mut i: usize = 0;
     while i < 4 {
         if 2 < positions(chart) {
-            weigh_drawn(chart, solved, text, seed, tally);
+            weigh_drawn(rt, chart, solved, text, seed, tally)?;
         } else {
-            weigh_numbered(chart, solved, text, i % 2, i / 2, tally);
+            weigh_numbered(rt, chart, solved, text, i % 2, i / 2, tally)?;
         }
         i += 1;
     }
+    Ok(())
 }
 
 fn weigh_numbered(
+    rt: &impl Print,
     chart: &Chart,
     solved: &Table,
     text: &[u8],
     here: usize,
     there: usize,
     tally: &mut Tally,
-) {
+) -> io::Result<()> {
     let mut table = *solved;
     let mut row = [4660u16; 512];
     if here < ways(chart, 0) {
         if there < ways(chart, 1) {
             choose(chart, &mut table, &mut row, 0, here);
             choose(chart, &mut table, &mut row, 1, there);
-            compare_worths(chart, &mut table, text, &row, tally);
-            compare_rows(chart, solved, &table, text, &row, tally);
+            compare_worths(rt, chart, &mut table, text, &row, tally)?;
+            compare_rows(rt, chart, solved, &table, text, &row, tally)?;
         }
     }
+    Ok(())
 }
 
-fn weigh_drawn(chart: &Chart, solved: &Table, text: &[u8], seed: &mut usize, tally: &mut Tally) {
+fn weigh_drawn(
+    rt: &impl Print,
+    chart: &Chart,
+    solved: &Table,
+    text: &[u8],
+    seed: &mut usize,
+    tally: &mut Tally,
+) -> io::Result<()> {
     let mut table = *solved;
     let mut row = [4660u16; 512];
     choose_drawn(chart, &mut table, &mut row, seed);
-    compare_worths(chart, &mut table, text, &row, tally);
-    compare_rows(chart, solved, &table, text, &row, tally);
+    compare_worths(rt, chart, &mut table, text, &row, tally)?;
+    compare_rows(rt, chart, solved, &table, text, &row, tally)
 }
 
 fn compare_worths(
+    rt: &impl Print,
     chart: &Chart,
     table: &mut Table,
     text: &[u8],
     row: &[u16; 512],
     tally: &mut Tally,
-) {
+) -> io::Result<()> {
     let mut worths = [4660u16; 512];
     let done = is_done(weigh_chart(text, row, &mut worths));
     weigh_choices(chart, table);
     add(tally, CONTROLLERS, 1);
     let same = same_row(table, WORTH, positions(chart), &worths);
-    expect(same & done, b"weighing", text, tally);
+    expect(rt, same & done, b"weighing", text, tally)
 }
 
 fn is_done(answer: Weighed) -> bool {
@@ -324,24 +391,26 @@ fn is_done(answer: Weighed) -> bool {
 
 // Comparing the chart's own plate with choices whose worths are in the table, beside the values.
 fn compare_rows(
+    rt: &impl Print,
     chart: &Chart,
     solved: &Table,
     table: &Table,
     text: &[u8],
     row: &[u16; 512],
     tally: &mut Tally,
-) {
+) -> io::Result<()> {
     let n = positions(chart);
     let mut page = [b'#'; 65536];
     let size = write_plate(&mut page, solved, n);
     let answer = compare(text, part(&page, size), row);
     let first = first_difference(table, VALUE, WORTH, n);
     expect(
+        rt,
         same_difference(answer, table, n, first),
         b"comparing",
         text,
         tally,
-    );
+    )
 }
 
 fn same_difference(answer: Compared, table: &Table, n: usize, first: usize) -> bool {

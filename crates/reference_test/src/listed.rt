@@ -11,32 +11,47 @@ use reference::sheet::{
 };
 use reference::tally::{Tally, add, expect};
 use reference::text::{Page, lines_of, put_line, same_pages};
+use std::io;
 
 // All comparisons of one chart.
-pub fn compare_sheets(chart: &Chart, table: &Table, text: &[u8], tally: &mut Tally) {
+pub fn compare_sheets(
+    rt: &impl Print,
+    chart: &Chart,
+    table: &Table,
+    text: &[u8],
+    tally: &mut Tally,
+) -> io::Result<()> {
     let mut page = [b'#'; 65536];
     let mut sheet = [b'#'; 65536];
     let lines = write_sheet(&mut page, chart, table);
     add(tally, LINES, lines);
-    compare_rooms(text, &page, lines, tally);
-    compare_room(text, &mut sheet, 65536, &page, lines, tally);
+    compare_rooms(rt, text, &page, lines, tally)?;
+    compare_room(rt, text, &mut sheet, 65536, &page, lines, tally)?;
     if 3 < positions(chart) {
-        hold_drawn(chart, table, text, &sheet, lines, tally);
+        hold_drawn(rt, chart, table, text, &sheet, lines, tally)?;
     } else {
-        hold_every(chart, table, text, &sheet, lines, tally);
+        hold_every(rt, chart, table, text, &sheet, lines, tally)?;
     }
+    Ok(())
 }
 
 // With as many bytes as the lines take, and with one less.
-fn compare_rooms(text: &[u8], page: &Page, lines: usize, tally: &mut Tally) {
+fn compare_rooms(
+    rt: &impl Print,
+    text: &[u8],
+    page: &Page,
+    lines: usize,
+    tally: &mut Tally,
+) -> io::Result<()> {
     let blank = [b'#'; 65536];
     let mut full = [b'#'; 65536];
     let mut short = [b'#'; 65536];
     let size = lines % 8192 * 12;
-    compare_room(text, &mut full, size, page, lines, tally);
+    compare_room(rt, text, &mut full, size, page, lines, tally)?;
     if 0 < size {
-        compare_room(text, &mut short, size - 1, &blank, lines, tally);
+        compare_room(rt, text, &mut short, size - 1, &blank, lines, tally)?;
     }
+    Ok(())
 }
 
 // Writes the sheet by its definition, in the chart's order, and answers the count of lines.
@@ -72,21 +87,23 @@ fn is_good(chart: &Chart, table: &Table, i: usize) -> bool {
 
 // The answer with so much of the page lent, and every byte of it.
 fn compare_room(
+    rt: &impl Print,
     text: &[u8],
     lent: &mut Page,
     room: usize,
     page: &Page,
     lines: usize,
     tally: &mut Tally,
-) {
+) -> io::Result<()> {
     let answer = list_into(text, lent, room);
     let same = same_pages(page, lent, 65536);
     expect(
+        rt,
         same & is_answer(answer, lines, room),
         b"listing",
         text,
         tally,
-    );
+    )
 }
 
 fn list_into(text: &[u8], lent: &mut [u8], room: usize) -> Listed {
@@ -111,21 +128,24 @@ fn is_answer(answer: Listed, lines: usize, room: usize) -> bool {
 
 // Each positional controller of a chart of up to three positions.
 fn hold_every(
+    rt: &impl Print,
     chart: &Chart,
     solved: &Table,
     text: &[u8],
     sheet: &Page,
     lines: usize,
     tally: &mut Tally,
-) {
+) -> io::Result<()> {
     let mut code: usize = 0;
     while code < 27 {
-        hold_numbered(chart, solved, text, sheet, lines, code, tally);
+        hold_numbered(rt, chart, solved, text, sheet, lines, code, tally)?;
         code += 1;
     }
+    Ok(())
 }
 
 fn hold_numbered(
+    rt: &impl Print,
     chart: &Chart,
     solved: &Table,
     text: &[u8],
@@ -133,7 +153,7 @@ fn hold_numbered(
     lines: usize,
     code: usize,
     tally: &mut Tally,
-) {
+) -> io::Result<()> {
     let mut table = *solved;
     let mut row = [0u16; 512];
     let last = code / 9 < ways(chart, 2);
@@ -141,23 +161,25 @@ fn hold_numbered(
         choose(chart, &mut table, &mut row, 0, code % 3);
         choose(chart, &mut table, &mut row, 1, code / 3 % 3);
         choose(chart, &mut table, &mut row, 2, code / 9);
-        hold(chart, &mut table, text, sheet, lines, tally);
+        hold(rt, chart, &mut table, text, sheet, lines, tally)?;
     }
+    Ok(())
 }
 
 // Of a larger chart the plate's own choices, some changed to other listed moves; then the same with a move that is not listed.
 fn hold_drawn(
+    rt: &impl Print,
     chart: &Chart,
     solved: &Table,
     text: &[u8],
     sheet: &Page,
     lines: usize,
     tally: &mut Tally,
-) {
+) -> io::Result<()> {
     let mut table = *solved;
     let mut seed = lines;
     choose_listed(&mut table, sheet, lines, &mut seed);
-    hold(chart, &mut table, text, sheet, lines, tally);
+    hold(rt, chart, &mut table, text, sheet, lines, tally)?;
     let i = unlisted(chart, solved, below(&mut seed, lines_of(chart)));
     if 0 < i {
         put(
@@ -166,8 +188,9 @@ fn hold_drawn(
             cell(chart, LEFT, i),
             cell(chart, RIGHT, i),
         );
-        hold(chart, &mut table, text, sheet, lines, tally);
+        hold(rt, chart, &mut table, text, sheet, lines, tally)?;
     }
+    Ok(())
 }
 
 // Chooses a listed move every other time.
@@ -197,19 +220,26 @@ fn unlisted(chart: &Chart, table: &Table, from: usize) -> usize {
 
 // The controller of the table's choices: its worths are the values exactly when all its choices are listed.
 fn hold(
+    rt: &impl Print,
     chart: &Chart,
     table: &mut Table,
     text: &[u8],
     sheet: &Page,
     lines: usize,
     tally: &mut Tally,
-) {
+) -> io::Result<()> {
     let n = positions(chart);
     weigh_choices(chart, table);
     let optimal = first_difference(table, VALUE, WORTH, n) == n;
     let choices = chosen(table, sheet, lines) % 8192 + count(table, CHOICE, n, NONE) % 8192;
     add(tally, if optimal { OPTIMAL } else { OTHERS }, 1);
-    expect(optimal == (choices == n), b"listed choices", text, tally);
+    expect(
+        rt,
+        optimal == (choices == n),
+        b"listed choices",
+        text,
+        tally,
+    )
 }
 
 // How many of a sheet's lines are choices. A line stands on it once.

@@ -8,6 +8,7 @@ use reference::generate::{below, blank_marks, build};
 use reference::sheet::{Chart, RIGHT, cell, positions};
 use reference::tally::{Tally, add, expect};
 use reference::text::{lines_of, part, same_pages, write_chart, write_damaged};
+use std::io;
 use writing::Written;
 
 // What is counted, in the order in which it is written: charts written, and their bytes; refused with 21, and with 10; charts that have an
@@ -31,25 +32,36 @@ const MISDRAWN: usize = 6;
 const OTHER: usize = 7;
 
 // A chart of a kind: written twice; its index, and the same with marks blank and half of the texts damaged.
-pub fn compare_small(kind: usize, number: usize, seed: &mut usize, tally: &mut Tally) {
+pub fn compare_small(
+    rt: &impl Print,
+    kind: usize,
+    number: usize,
+    seed: &mut usize,
+    tally: &mut Tally,
+) -> io::Result<()> {
     let mut chart = [0usize; 32768];
     build(&mut chart, kind, number, seed);
     // Without a move it is no chart.
     if cell(&chart, RIGHT, 0) == 0 {
-        return;
+        return Ok(());
     }
-    compare_written(&chart, below(seed, 2), tally);
-    compare_written(&chart, below(seed, 26), tally);
-    compare_index(&chart, 3, 0, tally);
+    compare_written(rt, &chart, below(seed, 2), tally)?;
+    compare_written(rt, &chart, below(seed, 26), tally)?;
+    compare_index(rt, &chart, 3, 0, tally)?;
     let mut blanks = [below(seed, 1000000), 0];
     blank_marks(&mut chart, 50, &mut blanks);
     let damage = below(seed, 6);
     let at = below(seed, lines_of(&chart));
-    compare_index(&chart, damage, at, tally);
+    compare_index(rt, &chart, damage, at, tally)
 }
 
 // The chart of this chart's index, of one past the last where it has none, into a buffer that has a byte less than the chart and so many more.
-fn compare_written(chart: &Chart, past: usize, tally: &mut Tally) {
+fn compare_written(
+    rt: &impl Print,
+    chart: &Chart,
+    past: usize,
+    tally: &mut Tally,
+) -> io::Result<()> {
     let mut page = [b'#'; 65536];
     let mut lent = [b'#'; 65536];
     let blank = [b'#'; 65536];
@@ -68,11 +80,12 @@ fn compare_written(chart: &Chart, past: usize, tally: &mut Tally) {
     count_written(number, size, tally);
     let text = part(&page, size);
     expect(
+        rt,
         same & is_written(answer, size, number),
         b"a small chart",
         text,
         tally,
-    );
+    )
 }
 
 // The refusals in the order of their tests, 0 for none.
@@ -107,7 +120,13 @@ fn is_written(answer: Written, size: usize, number: usize) -> bool {
 }
 
 // The index of a chart's text.
-fn compare_index(chart: &Chart, damage: usize, at: usize, tally: &mut Tally) {
+fn compare_index(
+    rt: &impl Print,
+    chart: &Chart,
+    damage: usize,
+    at: usize,
+    tally: &mut Tally,
+) -> io::Result<()> {
     let mut page = [b'#'; 65536];
     let damaged = write_damaged(&mut page, chart, damage, at);
     let text = part(&page, damaged.size);
@@ -116,11 +135,12 @@ fn compare_index(chart: &Chart, damage: usize, at: usize, tally: &mut Tally) {
     let answer = index_small_chart(text);
     count_index(number, index, tally);
     expect(
+        rt,
         is_index(answer, index, number, damaged.line),
         b"an index",
         text,
         tally,
-    );
+    )
 }
 
 fn index_due(small: bool, damage: usize) -> usize {

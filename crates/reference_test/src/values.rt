@@ -7,6 +7,7 @@ use reference::generate::{below, build};
 use reference::sheet::{Chart, HEADER, RIGHT, Table, cell, get, positions, wide};
 use reference::tally::{Tally, add, expect};
 use reference::text::{Page, lines_of, part, write_damaged};
+use std::io;
 use valuing::{Valued, value_chart, value_plain};
 
 // What is counted, in the order in which it is written: questions that both ways answer with rounds, the positions and the rounds of these;
@@ -35,23 +36,37 @@ struct Question {
 }
 
 // Four questions about a chart of a kind.
-pub fn compare_both(kind: usize, number: usize, seed: &mut usize, tally: &mut Tally) {
+pub fn compare_both(
+    rt: &impl Print,
+    kind: usize,
+    number: usize,
+    seed: &mut usize,
+    tally: &mut Tally,
+) -> io::Result<()> {
     let mut chart = [0usize; 32768];
     let mut table = [0usize; 4096];
     build(&mut chart, kind, number, seed);
     // Without a move it is no chart.
     if cell(&chart, RIGHT, 0) == 0 {
-        return;
+        return Ok(());
     }
     solve(&chart, &mut table);
     let mut k: usize = 0;
     while k < 4 {
-        compare_question(&chart, &table, k, seed, tally);
+        compare_question(rt, &chart, &table, k, seed, tally)?;
         k += 1;
     }
+    Ok(())
 }
 
-fn compare_question(chart: &Chart, table: &Table, k: usize, seed: &mut usize, tally: &mut Tally) {
+fn compare_question(
+    rt: &impl Print,
+    chart: &Chart,
+    table: &Table,
+    k: usize,
+    seed: &mut usize,
+    tally: &mut Tally,
+) -> io::Result<()> {
     let n = positions(chart);
     let mut page = [b'#'; 65536];
     let question = draw_question(&mut page, chart, k, seed);
@@ -59,9 +74,9 @@ fn compare_question(chart: &Chart, table: &Table, k: usize, seed: &mut usize, ta
     let number = number_due(n, question);
     count_question(table, n, question.number, number, tally);
     let filed = same_way(false, table, n, text, question, number);
-    expect(filed, b"valuing", text, tally);
+    expect(rt, filed, b"valuing", text, tally)?;
     let plain = same_way(true, table, n, text, question, number);
-    expect(plain, b"valuing the plain way", text, tally);
+    expect(rt, plain, b"valuing the plain way", text, tally)
 }
 
 // Writes the text. The first question lends the longest rows, the second rows of n numbers, the third one row that is short; in the fourth

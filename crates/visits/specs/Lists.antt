@@ -5,8 +5,8 @@ use Rattle.std.proofs.Math.Decide.{ℕ_discrete}
 use Rattle.std.proofs.Math.Path.{◌≡◌, refl, sym, ap}
 use Rattle.std.proofs.Math.Bool.{true, false}
 use Rattle.std.proofs.Math.Dec.{eqb}
-use borrow.Author.Tests.{eq-eqb, ne_eqb, eqb-true}
-use Rattle.search.specs.Below.{bit, count_below, count_next, count_same, count-bound, some_below, some_next, some-hit, some-none, some-found}
+use borrow.Author.Tests.{eq-eqb, ne_eqb}
+use Rattle.search.specs.Below.{bit, count_below, count_next, count-bound, some_below, some_next, some-hit, some-none}
 use Rattle.search.specs.Counting.{count_less, count_none, count-one-more}
 
 pub record Listed (n count : ℕ) (row : List ℕ) (p : ℕ → Bool) : Type 0 where

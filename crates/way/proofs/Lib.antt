@@ -1,4 +1,4 @@
--- What is proved of the definitions in specs/.
+-- Laws of the shortest way (specs/Way.antt, specs/Tight.antt).
 pub mod Trails
 pub mod WayLaws
 pub mod OneWay

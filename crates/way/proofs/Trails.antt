@@ -1,5 +1,5 @@
 -- Where trails stand after each move: what a move more adds, and that of two trails only one can be lower at the first difference.
-use Rattle.std.specs.Prelude.{ℕ, suc, ◌-◌, ◌≤◌, ◌<◌, ◌≡◌, refl, Bool, true, false, cond}
+use Rattle.std.specs.Prelude.{ℕ, suc, ◌≤◌, ◌<◌, ◌≡◌, refl, Bool, true, false, cond}
 use Rattle.std.proofs.Common.{arith, sym, subst, ◌∙◌, le-leb}
 use Rattle.std.proofs.Math.Decide.{dec_le}
 use Rattle.std.proofs.lemmas.Bool.{lt-leb}

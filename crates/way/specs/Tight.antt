@@ -1,6 +1,6 @@
 -- The way to ruin, computed. In an arena whose controller has no other choice a move is tight if the value where it begins is its target's
 -- and its cost: the ways over tight moves are those with fewest disturbances. So fewest moves is the value of another arena, in which
--- nobody chooses and every tight move is a disturbance. That this is the definition (specs/Way.antt) is shown in specs/WayLaws.antt.
+-- nobody chooses and every tight move is a disturbance. That this is the definition (specs/Way.antt) is shown in proofs/WayLaws.antt.
 use Rattle.std.specs.Prelude.{ℕ, zero, suc, Bool, cond, not, ◌&&◌, map, eqb}
 use Rattle.search.specs.First.{first_from}
 use Rattle.game.specs.Value.{Value, ever, ◌⊕◌, value_eq}

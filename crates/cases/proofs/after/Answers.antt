@@ -1,5 +1,5 @@
 -- `after` meets its contract: by what is left of the input.
-use native.Mathlib.Omega.{arith}
+use Rattle.std.proofs.Common.{arith}
 use Rattle.cases.specs.CaseLaws.{after-end, after_more}
 use Rattle.cases.proofs.after.Goals as goal
 

@@ -1,6 +1,5 @@
 -- `case_at` meets its contract: each place is the one before it, so many bytes further on.
-use mathlib.Core.Path.{◌∙◌, refl}
-use native.Mathlib.Omega.{arith}
+use Rattle.std.proofs.Common.{◌∙◌, refl, arith}
 use Rattle.cases.specs.Cases.{end_at, first_at, second_at, third_at, whole_case}
 use Rattle.cases.specs.CaseLaws.{after-fits, no-case, whole-case}
 use Rattle.cases.proofs.case_at.Goals as goal

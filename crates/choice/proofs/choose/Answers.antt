@@ -1,5 +1,4 @@
 -- `choose` meets its contract: the invariant says that the row has the best target among the first i moves.
-use Prim.Native.Nat.{◌-◌}
 use native.Mathlib.Nat.{le_antisymm}
 use native.Mathlib.Omega.{arith}
 use mathlib.Core.Path.{refl}

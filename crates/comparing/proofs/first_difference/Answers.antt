@@ -3,24 +3,12 @@
 use Prim.Native.Nat.{ℕ, ◌-◌}
 use native.Mathlib.Omega.{arith}
 use mathlib.Core.Path.{◌≡◌, sym, ap, ◌∙◌}
-use mathlib.Core.List.{List}
-use mathlib.Core.Bool.{Bool}
-use lib.Dec.{eqb}
 use borrow.Author.Tests.{eq-eqb, ne_eqb}
-use Rattle.rows.specs.Numbers.{number_at}
 use Rattle.search.specs.First.{first_from}
 use Rattle.search.proofs.FirstLaws.{first_next, first-stop, first_done}
-use Rattle.comparing.specs.Comparing.{first_difference}
-use Rattle.comparing.specs.declared.Compared.{Compared}
-use Rattle.comparing.specs.declared.Compared.TheVariants.{Agree, Differ}
+use Rattle.comparing.specs.declared.Compared.TheVariants.{Agree}
+use Rattle.comparing.proofs.first_difference.Invariants.{same, differ}
 use Rattle.comparing.proofs.first_difference.Goals as goal
-
--- the test at a position, and the answer where it fails
-abbrev same : List ℕ → List ℕ → ℕ → Bool
-same values worths v = eqb (number_at values v) (number_at worths v)
-
-abbrev differ : List ℕ → List ℕ → ℕ → Compared
-differ values worths v = Differ v (number_at values v) (number_at worths v)
 
 pub loop-v-init : goal.loop-v-init
 loop-v-init c =

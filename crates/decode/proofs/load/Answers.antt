@@ -10,7 +10,7 @@ pub walk-requires : goal.walk-requires
 walk-requires c =
     let room = c.requires.in_bounds.0 in
     let more = c.requires.in_bounds.1 in
-    (sym c.header.ensures ∙ c.in-Accepted.is, ((omega arith, omega arith), c.requires.in_bounds_2))
+    record { text_value = sym c.header.ensures ∙ c.in-Accepted.is; in_bounds = (omega arith, omega arith); in_bounds_2 = c.requires.in_bounds_2 }
 
 pub returns-then-walk : goal.returns-then-walk
 returns-then-walk c =

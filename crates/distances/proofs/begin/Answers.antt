@@ -1,6 +1,5 @@
 -- `begin` meets its contract: the invariant says that the first v positions were looked at.
 use native.Mathlib.Omega.{arith}
-use Prim.Native.Nat.{◌-◌}
 use native.Mathlib.Nat.{le_antisymm}
 use mathlib.Core.Path.{refl, ◌∙◌}
 use Rattle.distances.specs.QueueLaws.{queue-most, queue-room}

@@ -1,6 +1,6 @@
 -- `count_moves` meets its contract: the invariant says that the moves into the first positions of the order were looked at.
 use native.Mathlib.Omega.{arith}
-use Prim.Native.Nat.{ℕ, ◌-◌}
+use Prim.Native.Nat.{ℕ}
 use mathlib.Core.Path.{refl}
 use lib.ListN.{get_or-replicate}
 use Rattle.distances.specs.QueueLaws.{queue-most}

@@ -83,7 +83,7 @@ write_squares-requires c =
     let bounds : let a = c.args in (1 ≤ a.positions) × (a.positions ≤ 3) × (a.index < chart_count a.positions) = index-bounds _ _ (is) in
     record {
       few = (bounds).1;
-      c = c.count_moves-moves.ensures;
+      counted = c.count_moves-moves.ensures;
       owners-row = omega (arith, (bounds).1);
       marks-row = omega (arith, (bounds).1);
       room = omega arith;

@@ -1,5 +1,4 @@
 -- `pick_good` meets its contract: the invariant says that of the first i moves the good ones are copied and counted.
-use Prim.Native.Nat.{◌-◌}
 use native.Mathlib.Nat.{le_antisymm}
 use native.Mathlib.Omega.{arith}
 use mathlib.Core.Path.{refl}

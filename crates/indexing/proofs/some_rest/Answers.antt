@@ -1,9 +1,7 @@
 -- `some_rest` meets its contract: the invariant says that none of the positions below v rests.
-use Prim.Native.Nat.{◌-◌}
 use native.Mathlib.Nat.{le_antisymm}
 use native.Mathlib.Omega.{arith}
 use mathlib.Core.Path.{refl, sym}
-use mathlib.Core.Bool.{false}
 use borrow.Author.Tests.{eq-eqb, ne_eqb}
 use Rattle.search.specs.Below.{some_below, some_next, some-hit}
 use Rattle.indexing.specs.Indexing.{rests_below}

@@ -1,7 +1,7 @@
 -- `cases` is safe and ends: it counts the cases.
-use Prim.Native.Nat.{◌-◌}
+use Rattle.std.proofs.Common.{◌-◌}
 use Rattle.cases.specs.CaseLaws.{case-ordered}
 use Rattle.jobs_test.proofs.cases.Goals as goal
 
 pub show_case-next-requires : goal.show_case-next-requires
-show_case-next-requires c = rw c.case_at.ensures (case-ordered _ _)
+show_case-next-requires g c = rw c.case_at.ensures (case-ordered _ _)

@@ -1,5 +1,5 @@
 -- `first_from` meets its contract: the moves before `low` leave earlier positions, those from `high` on do not, and each turn halves what is between.
-use Prim.Native.Nat.{◌+◌, ◌-◌, ◌/◌}
+use Prim.Native.Nat.{◌+◌, ◌/◌}
 use native.Mathlib.Omega.{arith}
 use Rattle.moves.specs.Search.{between-all, between_none, halfway, lower-half, upper-half}
 use Rattle.moves.proofs.first_from.Goals as goal

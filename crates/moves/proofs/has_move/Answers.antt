@@ -1,9 +1,8 @@
 -- `has_move` meets its contract: the invariant says that none of the moves before the i-th is of the kind sought and leads from v to w.
-use Prim.Native.Nat.{◌+◌, ◌-◌}
+use Prim.Native.Nat.{◌+◌}
 use native.Mathlib.Omega.{arith}
 use native.Mathlib.Nat.{le_antisymm}
 use mathlib.Core.Path.{sym, ◌∙◌}
-use mathlib.Core.Bool.{false}
 use Rattle.rows.specs.Notes.{found-more, found-next}
 use Rattle.moves.specs.Search.{none_after, none_before}
 use Rattle.moves.proofs.has_move.Goals as goal

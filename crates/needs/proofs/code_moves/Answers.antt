@@ -1,5 +1,4 @@
 -- `code_moves` meets its contract: the invariant says that the codes of the first i moves are there.
-use Prim.Native.Nat.{◌-◌}
 use native.Mathlib.Nat.{le_antisymm}
 use native.Mathlib.Omega.{arith}
 use mathlib.Core.Path.{refl}

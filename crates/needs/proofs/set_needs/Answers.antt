@@ -1,5 +1,5 @@
 -- `set_needs` meets its contract: the invariant says that the codes of the first v positions have their needs.
-use Prim.Native.Nat.{◌-◌, ◌*◌}
+use Prim.Native.Nat.{◌*◌}
 use native.Mathlib.Nat.{le_antisymm}
 use native.Mathlib.Omega.{arith}
 use mathlib.Core.Path.{refl, ◌∙◌}

@@ -8,7 +8,6 @@ use borrow.Author.Tests.{not-false}
 use Rattle.plate.specs.Formed.{position_good}
 use Rattle.plate.specs.Read.{ColumnsRead}
 use Rattle.plate_walk.specs.WalkLaws.{columns-none, columns-next, columns-touched, walk-stops, walk_ends}
-use Rattle.std.proofs.lemmas.Bool.{not_from_true}
 use Rattle.plate_walk.proofs.walk.Goals as goal
 
 pub loop-v-init : goal.loop-v-init
@@ -44,7 +43,7 @@ pub loop-v-preserved : goal.loop-v-preserved
 loop-v-preserved c =
     let turn = c.loop-v in
     let line = c.line_at-line.ensures in
-    let good = not-false _ (not_from_true _ c.if-not-line.false) in
+    let good = not-false _ c.if-not-line.false in
     (omega arith, below_more _ _ turn.invariant.1 (line.form good), columns-next (omega arith) (omega arith) (omega arith) line good turn.invariant.2)
 
 pub shape_of-values : goal.shape_of-values

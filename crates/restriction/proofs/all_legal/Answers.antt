@@ -1,11 +1,9 @@
 -- `all_legal` meets its contract: the invariant says that the choices below v are legal.
-use Prim.Native.Nat.{◌-◌}
 use native.Mathlib.Nat.{le_antisymm}
 use native.Mathlib.Omega.{arith}
 use mathlib.Core.Path.{refl, sym, ap, ◌∙◌}
-use mathlib.Core.Bool.{not, false}
+use mathlib.Core.Bool.{not}
 use Rattle.search.specs.Below.{some_below, some_next, some-hit}
-use Rattle.restriction.specs.Restriction.{is_legal}
 use Rattle.std.proofs.lemmas.Bool.{not_from_false, not_from_true}
 use Rattle.restriction.proofs.all_legal.Goals as goal
 

@@ -1,5 +1,4 @@
 -- `flag_chosen` meets its contract: the invariant says that the first i moves have flagged the positions whose choice they lead to.
-use Prim.Native.Nat.{◌-◌}
 use native.Mathlib.Nat.{le_antisymm}
 use native.Mathlib.Omega.{arith}
 use mathlib.Core.Path.{refl}

@@ -1,5 +1,4 @@
 -- `restrict` meets its contract: the invariant says that of the first i moves those that stay are copied and counted.
-use Prim.Native.Nat.{◌-◌}
 use native.Mathlib.Nat.{le_antisymm}
 use native.Mathlib.Omega.{arith}
 use mathlib.Core.Path.{refl}

@@ -1,9 +1,8 @@
 -- `flag_owners` meets its contract: the invariant says that the row is filled up to v and has kept its length.
-use Prim.Native.Nat.{◌-◌}
 use native.Mathlib.Nat.{le_antisymm}
 use native.Mathlib.Omega.{arith}
 use mathlib.Core.Path.{sym, ◌∙◌}
-use mathlib.Core.Bool.{true, false}
+use mathlib.Core.Bool.{true}
 use Rattle.rows.specs.Filling.{filled_next, filled_none}
 use Rattle.round.specs.Round.{ready-flag-first}
 use Rattle.round.proofs.flag_owners.Goals as goal

@@ -1,11 +1,9 @@
 -- `note` meets its contract: the invariant says that the first i moves have left their notes, those aside past the n positions.
-use Prim.Native.Nat.{◌-◌}
 use native.Mathlib.Nat.{le_antisymm}
 use native.Mathlib.Omega.{arith}
 use mathlib.Core.Path.{refl}
 use Rattle.rows.specs.Rows.{at-move}
 use Rattle.rows.specs.Notes.{noted-none, noted-aside}
-use Rattle.round.specs.Round.{meets}
 use Rattle.round.proofs.note.Goals as goal
 
 pub loop-i-init : goal.loop-i-init

@@ -4,7 +4,7 @@ use mathlib.Core.Path.{◌≡◌}
 use lib.ListN.{length}
 use Rattle.search.specs.Below.{bit}
 use Rattle.rows.specs.Numbers.{number_at}
-use Rattle.rows.specs.Notes.{Noted, found}
+use Rattle.rows.specs.Notes.{Noted}
 use Rattle.round.specs.Round.{meets}
 use Rattle.round.proofs.note.Given as goal
 

@@ -1,5 +1,4 @@
 -- `place` meets its contract: the invariant says that the round has been carried out at the positions below v.
-use Prim.Native.Nat.{◌-◌}
 use native.Mathlib.Nat.{le_antisymm}
 use native.Mathlib.Omega.{arith}
 use mathlib.Core.Path.{refl}

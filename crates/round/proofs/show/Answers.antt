@@ -1,5 +1,4 @@
 -- `show` meets its contract: the invariant says that the row is filled up to v and has kept its length.
-use Prim.Native.Nat.{◌-◌}
 use native.Mathlib.Nat.{le_antisymm}
 use native.Mathlib.Omega.{arith}
 use mathlib.Core.Path.{sym}

@@ -5,7 +5,6 @@ use lib.Dec.{eqb}
 use mathlib.Core.Bool.{not}
 use Rattle.search.specs.Below.{bit}
 use Rattle.rows.specs.Rows.{Filled}
-use Rattle.rows.specs.Notes.{found}
 use Rattle.round.proofs.turn.Given as goal
 
 abbrev pub invariant-loop-v : goal.invariant-loop-v

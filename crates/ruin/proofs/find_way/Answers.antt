@@ -22,7 +22,7 @@ pub follow_shortest-requires : goal.follow_shortest-requires
 follow_shortest-requires c =
     let d = c.requires.n_in_bounds.0.1.0 in
     let weighed = c.solve_restricted-count.ensures.rows _ d c.requires.n_in_bounds.0.1.1 in
-    record { n_in_bounds = ((_, (_, (_, weighed))), omega (arith, d.few-positions, c.solve_restricted-count.kept), c.requires.n_in_bounds.2, c.if-worths-position.false); n_in_bounds_2 = c.requires.n_in_bounds_2 }
+    record { n_in_bounds = ((_, (_, (_, weighed))), omega (arith, d.few-positions, c.solve_restricted-count.auto), c.requires.n_in_bounds.2, c.if-worths-position.false); n_in_bounds_2 = c.requires.n_in_bounds_2 }
 
 pub returns : goal.returns
 returns c =

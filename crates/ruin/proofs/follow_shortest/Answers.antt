@@ -21,7 +21,7 @@ pub point_on-requires : goal.point_on-requires
 point_on-requires c =
     let w = c.requires.n_in_bounds.0.1.1.1 in
     let n = w.rows.few-positions in
-    (straight-moves w c.straighten.ensures (omega (arith, w.rows.few-moves, c.straighten.kept)), omega (arith, n, c.count_moves.auto), n)
+    (straight-moves w c.straighten.ensures (omega (arith, w.rows.few-moves, c.straighten.auto)), omega (arith, n, c.count_moves.auto), n)
 
 pub follow-requires : goal.follow-requires
 follow-requires c =
@@ -29,7 +29,7 @@ follow-requires c =
     let n = w.rows.few-positions in
     let on = leads-on w c.straighten.ensures c.count_moves.ensures c.point_on.ensures in
     let few = few-left w c.straighten.ensures c.count_moves.ensures c.point_on.ensures _ c.requires.n_in_bounds.2 c.requires.n_in_bounds.3 in
-    record { leads_on = (on, n, c.requires.n_in_bounds.2, few); n_in_bounds = (c.requires.n_in_bounds.1, omega (arith, n, c.count_moves.kept), omega (arith, n, c.point_on.auto), c.requires.n_in_bounds_2.0, c.requires.n_in_bounds_2.1) }
+    record { leads_on = (on, n, c.requires.n_in_bounds.2, few); n_in_bounds = (c.requires.n_in_bounds.1, omega (arith, n, c.count_moves.auto), omega (arith, n, c.point_on.auto), c.requires.n_in_bounds_2.0, c.requires.n_in_bounds_2.1) }
 
 pub returns : goal.returns
 returns c =

@@ -1,6 +1,5 @@
 -- `settle` meets its contract: the invariant says that the rows hold the table after round (k, s). A round that places
 -- nobody leaves the table of the last round, and so does the n-th.
-use Prim.Native.Nat.{◌-◌}
 use native.Mathlib.Nat.{le_antisymm}
 use native.Mathlib.Omega.{arith}
 use mathlib.Core.Path.{refl}

@@ -1,6 +1,5 @@
 -- `solve` meets its contract: the invariant says that the rows hold the table that the value after `last` begins with. A
 -- value whose first round places nobody is the end, and so is the n-th.
-use Prim.Native.Nat.{◌-◌}
 use native.Mathlib.Omega.{arith}
 use mathlib.Core.Path.{refl, sym}
 use Rattle.rows.specs.RowsLaws.{rows-within}

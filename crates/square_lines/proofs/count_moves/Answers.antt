@@ -1,5 +1,5 @@
 -- `count_moves` meets its contract: the invariant says that the moves of the positions below v are counted. There are at most 18.
-use Prim.Native.Nat.{ℕ, ◌+◌, ◌-◌, ◌≤◌}
+use Prim.Native.Nat.{ℕ, ◌+◌, ◌≤◌}
 use native.Mathlib.Omega.{arith}
 use native.Mathlib.Nat.{le_antisymm, mul-le-mul}
 use mathlib.Core.Path.{◌≡◌, refl, ap, ◌∙◌}
@@ -14,25 +14,25 @@ unfolding moves_count
 loop-v-init c = (omega arith, refl)
 
 pub overflow_add-count : goal.overflow_add-count
-overflow_add-count c = let below : ℕ → ℕ = let a = c.args in moves_count a.n a.t2 a.t3 in
-    let next : let a = c.args in let v = c.loop-v.v in below (v + 1) ≡ below v + count_below (cell a.t2 v) a.n + count_below (cell a.t3 v) a.n = let a = c.args in moves_next a.n a.t2 a.t3 c.loop-v.v in
+overflow_add-count c = let below : ℕ → ℕ = let a = c.args in moves_count a.n a.meant a.disturbances in
+    let next : let a = c.args in let v = c.loop-v.v in below (v + 1) ≡ below v + count_below (cell a.meant v) a.n + count_below (cell a.disturbances v) a.n = let a = c.args in moves_next a.n a.meant a.disturbances c.loop-v.v in
     let few : below (c.loop-v.v + 1) ≤ 18 = let a = c.args in
     let each : a.n + a.n ≤ 6 = omega arith in
-    omega (arith, moves-bound a.n a.t2 a.t3 (c.loop-v.v + 1), mul-le-mul c.loop-v-test.true each) in
+    omega (arith, moves-bound a.n a.meant a.disturbances (c.loop-v.v + 1), mul-le-mul c.loop-v-test.true each) in
     omega (arith, next, few)
 
 pub overflow_add-count-in-loop-v : goal.overflow_add-count-in-loop-v
-overflow_add-count-in-loop-v c = let below : ℕ → ℕ = let a = c.args in moves_count a.n a.t2 a.t3 in
-    let next : let a = c.args in let v = c.loop-v.v in below (v + 1) ≡ below v + count_below (cell a.t2 v) a.n + count_below (cell a.t3 v) a.n = let a = c.args in moves_next a.n a.t2 a.t3 c.loop-v.v in
+overflow_add-count-in-loop-v c = let below : ℕ → ℕ = let a = c.args in moves_count a.n a.meant a.disturbances in
+    let next : let a = c.args in let v = c.loop-v.v in below (v + 1) ≡ below v + count_below (cell a.meant v) a.n + count_below (cell a.disturbances v) a.n = let a = c.args in moves_next a.n a.meant a.disturbances c.loop-v.v in
     let few : below (c.loop-v.v + 1) ≤ 18 = let a = c.args in
     let each : a.n + a.n ≤ 6 = omega arith in
-    omega (arith, moves-bound a.n a.t2 a.t3 (c.loop-v.v + 1), mul-le-mul c.loop-v-test.true each) in
+    omega (arith, moves-bound a.n a.meant a.disturbances (c.loop-v.v + 1), mul-le-mul c.loop-v-test.true each) in
     omega (arith, next, few)
 
 pub loop-v-preserved : goal.loop-v-preserved
-loop-v-preserved c = let below : ℕ → ℕ = let a = c.args in moves_count a.n a.t2 a.t3 in
-    let next : let a = c.args in let v = c.loop-v.v in below (v + 1) ≡ below v + count_below (cell a.t2 v) a.n + count_below (cell a.t3 v) a.n = let a = c.args in moves_next a.n a.t2 a.t3 c.loop-v.v in
+loop-v-preserved c = let below : ℕ → ℕ = let a = c.args in moves_count a.n a.meant a.disturbances in
+    let next : let a = c.args in let v = c.loop-v.v in below (v + 1) ≡ below v + count_below (cell a.meant v) a.n + count_below (cell a.disturbances v) a.n = let a = c.args in moves_next a.n a.meant a.disturbances c.loop-v.v in
     (omega arith, omega (arith, next))
 
 pub returns : goal.returns
-returns c = let a = c.args in c.loop-v.invariant.1 ∙ ap (moves_count a.n a.t2 a.t3) (le_antisymm c.loop-v.invariant.0 c.loop-v-test.false)
+returns c = let a = c.args in c.loop-v.invariant.1 ∙ ap (moves_count a.n a.meant a.disturbances) (le_antisymm c.loop-v.invariant.0 c.loop-v-test.false)

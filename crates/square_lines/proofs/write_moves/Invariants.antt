@@ -3,7 +3,7 @@
 use Prim.Native.Nat.{◌-◌, ◌≤◌}
 use mathlib.Core.Path.{◌≡◌}
 use lib.ListN.{length}
-use Rattle.square_lines.specs.LinesLaws.{behind, MovesWritten}
+use Rattle.square_lines.specs.LinesLaws.{MovesWritten}
 use Rattle.square_lines.proofs.write_moves.Given as goal
 
 abbrev pub invariant-loop-v : goal.invariant-loop-v

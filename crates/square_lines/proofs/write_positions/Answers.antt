@@ -1,6 +1,5 @@
 -- `write_positions` meets its contract. The invariant: the lines of the positions below v are written, and behind them the buffer is as it
 -- was. A turn writes the part behind them.
-use Prim.Native.Nat.{◌-◌}
 use native.Mathlib.Omega.{arith}
 use native.Mathlib.Nat.{le_antisymm}
 use mathlib.Core.Path.{refl}
@@ -15,7 +14,7 @@ unfolding joined
 loop-v-init c = (omega arith, refl, written_none _)
 
 pub overflow_cast-marks : goal.overflow_cast-marks
-overflow_cast-marks c = omega (arith, c.shared_slice_known-in-loop-v-2-1.given c.loop-v.v)
+overflow_cast-marks c = omega (arith, c.type_inv.marks c.loop-v.v)
 
 pub write_line-requires : goal.write_line-requires
 write_line-requires c = simp (length-take, length-drop) (omega arith)

@@ -2,7 +2,7 @@
 -- the number stays small (`held-bound`).
 use Prim.Native.Nat.{◌-◌, ◌≤◌}
 use mathlib.Core.Path.{◌≡◌}
-use Rattle.squares.specs.SquaresLaws.{held_below, held_next, held-bound}
+use Rattle.squares.specs.SquaresLaws.{held_below}
 use Rattle.squares.proofs.index_of.Given as goal
 
 abbrev pub invariant-loop-v : goal.invariant-loop-v

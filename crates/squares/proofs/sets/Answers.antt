@@ -13,4 +13,4 @@ pub returns-in-2 : goal.returns-in-2
 returns-in-2 c = rw c.in-2.is
 
 pub returns-in_default : goal.returns-in_default
-returns-in_default c = let three : c.args.n ≡ 3 = omega (arith, c.in_default.rest.1, c.in_default.rest.0.1, c.in_default.rest.0.0.1) in rw three
+returns-in_default c = let three : c.args.n ≡ 3 = omega arith in rw three

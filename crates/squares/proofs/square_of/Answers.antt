@@ -1,11 +1,11 @@
 -- `square_of` meets its contract: the invariant says that the first i moves are gathered.
 use native.Mathlib.Omega.{arith}
-use Prim.Native.Nat.{◌+◌, ◌-◌, ◌≤◌, ◌<◌}
+use Prim.Native.Nat.{◌+◌, ◌≤◌, ◌<◌}
 use native.Mathlib.Nat.{le_antisymm}
-use mathlib.Core.Logic.{⊎_elim}
 use lib.ListN.{get_or}
 use Rattle.squares.specs.SquaresLaws.{gathered_none, gathered-other, gathered-more}
 use Rattle.squares.proofs.square_of.Goals as goal
+use Rattle.squares.proofs.square_of.Goals.{then-costs-i, else-costs-i}
 
 pub loop-i-init : goal.loop-i-init
 loop-i-init c = (omega arith, gathered_none)
@@ -22,24 +22,16 @@ pub offset_bounds-square-v : goal.offset_bounds-square-v
 offset_bounds-square-v c = let from-inside : get_or c.args.froms.now c.loop-i.i 0 < 3 = c.requires.from-inside c.loop-i.i c.loop-i-test.true in
     omega (arith, from-inside)
 
--- no goal bounds_1_square
-index-1-square : tie.Need-bounds-1-square invariant-loop decreases-loop
-index-1-square c = omega (arith, from-inside c.before.before.before.before)
-
--- no goal bounds_2_square
-index-2-square : tie.Need-bounds-2-square invariant-loop decreases-loop
-index-2-square c = omega (arith, to_inside c.before.before.before.before)
-
 pub loop-i-preserved : goal.loop-i-preserved
 loop-i-preserved c =
     let from-inside : get_or c.args.froms.now c.loop-i.i 0 < 3 = c.requires.from-inside c.loop-i.i c.loop-i-test.true in
     let to_inside : get_or c.args.tos.now c.loop-i.i 0 < 3 = c.requires.to_inside c.loop-i.i c.loop-i-test.true in
     let at = c.loop-i in
     let more : at.i + 1 ≤ c.args.m = omega arith in
-    ⊎_elim
-    (λ w. (more, rw w.3 (gathered-more w.0.taken (from-inside) (to_inside) at.invariant.1)))
-    (λ w. (more, rw w.1 (gathered-other w.0.left at.invariant.1)))
-    c.if-costs-i.branch
+    elim c.if-costs-i.branch [
+      | then-costs-i w ↦ (more, rw w.square-is (gathered-more w.if-costs-i.true from-inside to_inside at.invariant.1))
+      | else-costs-i w ↦ (more, rw w.square-is (gathered-other w.if-costs-i.false at.invariant.1))
+    ]
 
 pub returns : goal.returns
 returns c = rw (← le_antisymm c.loop-i.invariant.0 c.loop-i-test.false) c.loop-i.invariant.1.joins

@@ -14,13 +14,13 @@ pub count_first_line-requires : goal.count_first_line-requires
 count_first_line-requires c =
     let pre = c.requires in
     let solved = c.solve_by in
-    let kept = solved.auto.1.1.1.1.1.1.1.1 in
+    let kept = solved.auto in
     let held = pre.0 in
-    (held.1.few-positions, omega (arith, pre.1, kept), omega (arith, pre.3, kept), pairs-fit solved.ensures kept.0 kept.1.0 held.0 held.1)
+    (held.1.few-positions, omega (arith, pre.1, kept.values), omega (arith, pre.3, kept.steps), pairs-fit solved.ensures kept.values kept.steps held.0 held.1)
 
 pub returns : goal.returns
 returns c =
     let solved = c.solve_by in
     let chosen = c.choose in
-    let kept = solved.auto.1.1.1.1.1.1.1.1 in
-    rows-valued solved.ensures kept.0 kept.1.0 chosen.ensures chosen.auto.1.1.1.1.1.1.1.0 c.count_first_line.ensures
+    let kept = solved.auto in
+    rows-valued solved.ensures kept.values kept.steps chosen.ensures chosen.auto.choices c.count_first_line.ensures

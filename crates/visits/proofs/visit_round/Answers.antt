@@ -1,5 +1,4 @@
 -- `visit_round` meets its contract: the invariant says that the positions of the order before `at` were visited.
-use Prim.Native.Nat.{◌-◌}
 use native.Mathlib.Omega.{arith}
 use Rattle.std.proofs.Common.{ℕ}
 use Rattle.visits.specs.Standing.{Setting}

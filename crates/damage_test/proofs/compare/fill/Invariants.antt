@@ -1,5 +1,5 @@
 -- `damage_test::compare::fill` is safe and ends: it counts `v` up to `lines`.
-use Prim.Native.Nat.{◌-◌, ◌≤◌}
+use Rattle.std.proofs.Common.{◌-◌, ◌≤◌}
 use Rattle.damage_test.proofs.compare.fill.Given as goal
 
 abbrev pub invariant-loop-v : goal.invariant-loop-v

@@ -1,5 +1,5 @@
 -- `damage_test::compare::same_sheets` is safe and ends: it counts `i` up to 2,048.
-use Prim.Native.Nat.{◌-◌, ◌≤◌}
+use Rattle.std.proofs.Common.{◌-◌, ◌≤◌}
 use Rattle.damage_test.proofs.compare.same_sheets.Given as goal
 
 abbrev pub invariant-loop-i : goal.invariant-loop-i

@@ -1,5 +1,5 @@
 -- `damage_test::damage::exchange` is safe and ends: it counts `k` up to 12.
-use Prim.Native.Nat.{◌-◌, ◌≤◌}
+use Rattle.std.proofs.Common.{◌-◌, ◌≤◌}
 use Rattle.damage_test.proofs.damage.exchange.Given as goal
 
 abbrev pub invariant-loop-k : goal.invariant-loop-k

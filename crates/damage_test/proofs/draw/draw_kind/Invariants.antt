@@ -1,5 +1,5 @@
 -- `damage_test::draw::draw_kind` is safe and ends: it counts `t` up to `n`.
-use Prim.Native.Nat.{◌-◌, ◌≤◌}
+use Rattle.std.proofs.Common.{◌-◌, ◌≤◌}
 use Rattle.damage_test.proofs.draw.draw_kind.Given as goal
 
 abbrev pub invariant-loop-t : goal.invariant-loop-t

@@ -1,5 +1,5 @@
 -- `damage_test::draw::draw_moves` is safe and ends: it counts `v` up to `n`.
-use Prim.Native.Nat.{◌-◌, ◌≤◌}
+use Rattle.std.proofs.Common.{◌-◌, ◌≤◌}
 use Rattle.damage_test.proofs.draw.draw_moves.Given as goal
 
 abbrev pub invariant-loop-v : goal.invariant-loop-v

@@ -1,5 +1,5 @@
 -- `damage_test::draw::put_field` is safe and ends: it counts `k` up to 5.
-use Prim.Native.Nat.{◌-◌, ◌≤◌}
+use Rattle.std.proofs.Common.{◌-◌, ◌≤◌}
 use Rattle.damage_test.proofs.draw.put_field.Given as goal
 
 abbrev pub invariant-loop-k : goal.invariant-loop-k

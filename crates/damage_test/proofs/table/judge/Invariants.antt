@@ -1,5 +1,5 @@
 -- `damage_test::table::judge` is safe and ends: it counts `i` up to `lines`.
-use Prim.Native.Nat.{◌-◌, ◌≤◌}
+use Rattle.std.proofs.Common.{◌-◌, ◌≤◌}
 use Rattle.damage_test.proofs.table.judge.Given as goal
 
 abbrev pub invariant-loop-i : goal.invariant-loop-i

@@ -1,5 +1,5 @@
 -- `damage_test::table::judge_meant` is safe and ends: it counts `v` up to `n`.
-use Prim.Native.Nat.{◌-◌, ◌≤◌}
+use Rattle.std.proofs.Common.{◌-◌, ◌≤◌}
 use Rattle.damage_test.proofs.table.judge_meant.Given as goal
 
 abbrev pub invariant-loop-v : goal.invariant-loop-v

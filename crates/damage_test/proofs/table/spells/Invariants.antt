@@ -1,5 +1,5 @@
 -- `damage_test::table::spells` is safe and ends: it counts `j` up to 5.
-use Prim.Native.Nat.{◌-◌, ◌≤◌}
+use Rattle.std.proofs.Common.{◌-◌, ◌≤◌}
 use Rattle.damage_test.proofs.table.spells.Given as goal
 
 abbrev pub invariant-loop-j : goal.invariant-loop-j

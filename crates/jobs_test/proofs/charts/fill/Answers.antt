@@ -1,8 +1,5 @@
 -- `jobs_test::charts::fill` is safe and ends: it counts the lines, and each call keeps the text's length.
-use Prim.Native.Nat.{◌-◌}
-use native.Mathlib.Omega.{arith}
-use mathlib.Core.Path.{◌∙◌}
-use lib.ListN.{length}
+use Rattle.std.proofs.Common.{◌-◌, arith, ◌∙◌, length}
 use Rattle.jobs_test.proofs.charts.fill.Goals as goal
 
 pub loop-i-preserved : goal.loop-i-preserved

@@ -1,7 +1,5 @@
 -- `jobs_test::charts::fill` is safe and ends: it counts the lines, and each call keeps the text's length.
-use Prim.Native.Nat.{◌-◌, ◌≤◌}
-use mathlib.Core.Path.{◌≡◌}
-use lib.ListN.{length}
+use Rattle.std.proofs.Common.{◌-◌, ◌≤◌, ◌≡◌, length}
 use Rattle.jobs_test.proofs.charts.fill.Given as goal
 
 abbrev pub invariant-loop-i : goal.invariant-loop-i

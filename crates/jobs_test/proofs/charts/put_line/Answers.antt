@@ -1,7 +1,5 @@
 -- `jobs_test::charts::put_line` is safe: each store and each call keeps the text's length.
-use native.Mathlib.Omega.{arith}
-use mathlib.Core.Path.{◌≡◌, ◌∙◌}
-use lib.ListN.{length, length-set}
+use Rattle.std.proofs.Common.{arith, ◌≡◌, ◌∙◌, length, length-set}
 use Rattle.jobs_test.proofs.charts.put_line.Goals as goal
 
 pub write-requires : goal.write-requires

@@ -1,5 +1,5 @@
 -- `jobs_test::houses::start` is safe and ends: it counts `lane` up to 64.
-use Prim.Native.Nat.{◌-◌, ◌≤◌}
+use Rattle.std.proofs.Common.{◌-◌, ◌≤◌}
 use Rattle.jobs_test.proofs.houses.start.Given as goal
 
 abbrev pub invariant-loop-lane : goal.invariant-loop-lane

@@ -1,5 +1,5 @@
 -- `jobs_test::plates::fill_row` is safe and ends: it counts `v` up to 66.
-use Prim.Native.Nat.{◌-◌, ◌≤◌}
+use Rattle.std.proofs.Common.{◌-◌, ◌≤◌}
 use Rattle.jobs_test.proofs.plates.fill_row.Given as goal
 
 abbrev pub invariant-loop-v : goal.invariant-loop-v

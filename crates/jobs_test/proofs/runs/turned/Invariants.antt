@@ -1,5 +1,5 @@
 -- `turned` is safe and ends: it counts the turns.
-use Prim.Native.Nat.{◌-◌, ◌≤◌}
+use Rattle.std.proofs.Common.{◌-◌, ◌≤◌}
 use Rattle.jobs_test.proofs.runs.turned.Given as goal
 
 abbrev pub invariant-loop-k : goal.invariant-loop-k

@@ -1,5 +1,5 @@
 -- `jobs_test::sheets::same` is safe and ends: it counts `i` up to 49,152.
-use Prim.Native.Nat.{◌-◌, ◌≤◌}
+use Rattle.std.proofs.Common.{◌-◌, ◌≤◌}
 use Rattle.jobs_test.proofs.sheets.same.Given as goal
 
 abbrev pub invariant-loop-i : goal.invariant-loop-i

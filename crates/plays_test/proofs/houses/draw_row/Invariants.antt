@@ -1,5 +1,5 @@
 -- `plays_test::houses::draw_row` is safe and ends: it counts `lane` up to 64.
-use Prim.Native.Nat.{◌-◌, ◌≤◌}
+use Rattle.std.proofs.Common.{◌-◌, ◌≤◌}
 use Rattle.plays_test.proofs.houses.draw_row.Given as goal
 
 abbrev pub invariant-loop-lane : goal.invariant-loop-lane

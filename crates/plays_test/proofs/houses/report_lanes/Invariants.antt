@@ -1,5 +1,5 @@
 -- `plays_test::houses::report_lanes` is safe and ends: it counts `lane` down from `count`.
-use Prim.Native.Nat.{◌≤◌}
+use Rattle.std.proofs.Common.{◌≤◌}
 use Rattle.plays_test.proofs.houses.report_lanes.Given as goal
 
 abbrev pub invariant-loop-lane : goal.invariant-loop-lane

@@ -1,5 +1,5 @@
 -- `plays_test::houses::same_lanes` is safe and ends: it counts `lane` up to 64.
-use Prim.Native.Nat.{◌-◌, ◌≤◌}
+use Rattle.std.proofs.Common.{◌-◌, ◌≤◌}
 use Rattle.plays_test.proofs.houses.same_lanes.Given as goal
 
 abbrev pub invariant-loop-lane : goal.invariant-loop-lane

@@ -1,5 +1,5 @@
 -- `plays_test::plays::keep` is safe and ends: it counts `k` up to `length`.
-use Prim.Native.Nat.{◌-◌, ◌≤◌}
+use Rattle.std.proofs.Common.{◌-◌, ◌≤◌}
 use Rattle.plays_test.proofs.plays.keep.Given as goal
 
 abbrev pub invariant-loop-k : goal.invariant-loop-k

@@ -1,5 +1,5 @@
 -- `plays_test::plays::search` is safe and ends: it counts `i` up to 1,000,000.
-use Prim.Native.Nat.{◌-◌, ◌≤◌}
+use Rattle.std.proofs.Common.{◌-◌, ◌≤◌}
 use Rattle.plays_test.proofs.plays.search.Given as goal
 
 abbrev pub invariant-loop-i : goal.invariant-loop-i

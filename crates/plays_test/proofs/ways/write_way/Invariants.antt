@@ -1,5 +1,5 @@
 -- `plays_test::ways::write_way` is safe and ends: it counts `k` up to `lines`.
-use Prim.Native.Nat.{◌-◌, ◌≤◌}
+use Rattle.std.proofs.Common.{◌-◌, ◌≤◌}
 use Rattle.plays_test.proofs.ways.write_way.Given as goal
 
 abbrev pub invariant-loop-k : goal.invariant-loop-k

@@ -1,5 +1,5 @@
 -- `reference::checker::first_fault` is safe and ends: it counts `v` up to `n`.
-use Prim.Native.Nat.{◌-◌, ◌≤◌}
+use Rattle.std.proofs.Common.{◌-◌, ◌≤◌}
 use Rattle.reference.proofs.checker.first_fault.Given as goal
 
 abbrev pub invariant-loop-v : goal.invariant-loop-v

@@ -1,5 +1,5 @@
 -- `reference::definition::count` is safe and ends: it counts `v` up to `n`.
-use Prim.Native.Nat.{◌-◌, ◌≤◌}
+use Rattle.std.proofs.Common.{◌-◌, ◌≤◌}
 use Rattle.reference.proofs.definition.count.Given as goal
 
 abbrev pub invariant-loop-v : goal.invariant-loop-v

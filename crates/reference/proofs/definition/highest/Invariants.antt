@@ -1,5 +1,5 @@
 -- `reference::definition::highest` is safe and ends: it counts `v` up to `n`.
-use Prim.Native.Nat.{◌-◌, ◌≤◌}
+use Rattle.std.proofs.Common.{◌-◌, ◌≤◌}
 use Rattle.reference.proofs.definition.highest.Given as goal
 
 abbrev pub invariant-loop-v : goal.invariant-loop-v

@@ -1,5 +1,5 @@
 -- `reference::definition::levels` is safe and ends: it counts `k` up to `n`.
-use Prim.Native.Nat.{◌-◌, ◌≤◌}
+use Rattle.std.proofs.Common.{◌-◌, ◌≤◌}
 use Rattle.reference.proofs.definition.levels.Given as goal
 
 abbrev pub invariant-loop-k : goal.invariant-loop-k

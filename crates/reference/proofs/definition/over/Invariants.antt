@@ -1,5 +1,5 @@
 -- `reference::definition::over` is safe and ends: it counts `i` up to `count`.
-use Prim.Native.Nat.{◌-◌, ◌≤◌}
+use Rattle.std.proofs.Common.{◌-◌, ◌≤◌}
 use Rattle.reference.proofs.definition.over.Given as goal
 
 abbrev pub invariant-loop-i : goal.invariant-loop-i

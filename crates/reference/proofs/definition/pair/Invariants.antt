@@ -1,5 +1,5 @@
 -- `reference::definition::pair` is safe and ends: it counts `w` up to `v`.
-use Prim.Native.Nat.{◌-◌, ◌≤◌}
+use Rattle.std.proofs.Common.{◌-◌, ◌≤◌}
 use Rattle.reference.proofs.definition.pair.Given as goal
 
 abbrev pub invariant-loop-w : goal.invariant-loop-w

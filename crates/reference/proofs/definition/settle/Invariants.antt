@@ -1,5 +1,5 @@
 -- `reference::definition::settle` is safe and ends: it counts `i` up to `rounds`.
-use Prim.Native.Nat.{◌-◌, ◌≤◌}
+use Rattle.std.proofs.Common.{◌-◌, ◌≤◌}
 use Rattle.reference.proofs.definition.settle.Given as goal
 
 abbrev pub invariant-loop-i : goal.invariant-loop-i

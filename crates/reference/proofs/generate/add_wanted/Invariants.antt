@@ -1,5 +1,5 @@
 -- `reference::generate::add_wanted` is safe and ends: it counts `t` up to 512.
-use Prim.Native.Nat.{◌-◌, ◌≤◌}
+use Rattle.std.proofs.Common.{◌-◌, ◌≤◌}
 use Rattle.reference.proofs.generate.add_wanted.Given as goal
 
 abbrev pub invariant-loop-t : goal.invariant-loop-t

@@ -1,5 +1,5 @@
 -- `reference::generate::blank_marks` is safe and ends: it counts `v` up to `n`.
-use Prim.Native.Nat.{◌-◌, ◌≤◌}
+use Rattle.std.proofs.Common.{◌-◌, ◌≤◌}
 use Rattle.reference.proofs.generate.blank_marks.Given as goal
 
 abbrev pub invariant-loop-v : goal.invariant-loop-v

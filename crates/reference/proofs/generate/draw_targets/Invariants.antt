@@ -1,5 +1,5 @@
 -- `reference::generate::draw_targets` is safe and ends: it counts `i` up to 64.
-use Prim.Native.Nat.{◌-◌, ◌≤◌}
+use Rattle.std.proofs.Common.{◌-◌, ◌≤◌}
 use Rattle.reference.proofs.generate.draw_targets.Given as goal
 
 abbrev pub invariant-loop-i : goal.invariant-loop-i

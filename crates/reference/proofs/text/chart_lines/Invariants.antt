@@ -1,5 +1,5 @@
 -- `reference::text::chart_lines` is safe and ends: it counts `i` up to `lines`.
-use Prim.Native.Nat.{◌-◌, ◌≤◌}
+use Rattle.std.proofs.Common.{◌-◌, ◌≤◌}
 use Rattle.reference.proofs.text.chart_lines.Given as goal
 
 abbrev pub invariant-loop-i : goal.invariant-loop-i

@@ -1,5 +1,5 @@
 -- `reference::text::put_field` is safe and ends: it counts `k` up to 5.
-use Prim.Native.Nat.{◌-◌, ◌≤◌}
+use Rattle.std.proofs.Common.{◌-◌, ◌≤◌}
 use Rattle.reference.proofs.text.put_field.Given as goal
 
 abbrev pub invariant-loop-k : goal.invariant-loop-k

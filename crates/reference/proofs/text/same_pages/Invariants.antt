@@ -1,5 +1,5 @@
 -- `reference::text::same_pages` is safe and ends: it counts `i` up to `size`.
-use Prim.Native.Nat.{◌-◌, ◌≤◌}
+use Rattle.std.proofs.Common.{◌-◌, ◌≤◌}
 use Rattle.reference.proofs.text.same_pages.Given as goal
 
 abbrev pub invariant-loop-i : goal.invariant-loop-i

@@ -1,5 +1,5 @@
 -- `reference::text::write_plate` is safe and ends: it counts `v` up to `n`.
-use Prim.Native.Nat.{◌-◌, ◌≤◌}
+use Rattle.std.proofs.Common.{◌-◌, ◌≤◌}
 use Rattle.reference.proofs.text.write_plate.Given as goal
 
 abbrev pub invariant-loop-v : goal.invariant-loop-v

@@ -1,5 +1,5 @@
 -- `reference_test::compare::checksum` is safe and ends: it counts `v` up to `n`.
-use Prim.Native.Nat.{◌-◌, ◌≤◌}
+use Rattle.std.proofs.Common.{◌-◌, ◌≤◌}
 use Rattle.reference_test.proofs.compare.checksum.Given as goal
 
 abbrev pub invariant-loop-v : goal.invariant-loop-v

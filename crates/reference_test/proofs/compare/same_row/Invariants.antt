@@ -1,5 +1,5 @@
 -- `reference_test::compare::same_row` is safe and ends: it counts `v` up to 512.
-use Prim.Native.Nat.{◌-◌, ◌≤◌}
+use Rattle.std.proofs.Common.{◌-◌, ◌≤◌}
 use Rattle.reference_test.proofs.compare.same_row.Given as goal
 
 abbrev pub invariant-loop-v : goal.invariant-loop-v

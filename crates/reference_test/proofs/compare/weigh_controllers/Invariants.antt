@@ -1,9 +1,9 @@
 -- `reference_test::compare::weigh_controllers` is safe and ends: it counts `i` up to 4.
-use Prim.Native.Nat.{◌-◌, ◌≤◌}
+use Rattle.std.proofs.Common.{◌-◌, ◌≤◌}
 use Rattle.reference_test.proofs.compare.weigh_controllers.Given as goal
 
 abbrev pub invariant-loop-i : goal.invariant-loop-i
-invariant-loop-i l = l.i ≤ 4
+invariant-loop-i g l = l.i ≤ 4
 
 abbrev pub decreases-loop-i : goal.decreases-loop-i
-decreases-loop-i l = 4 - l.i
+decreases-loop-i g l = 4 - l.i

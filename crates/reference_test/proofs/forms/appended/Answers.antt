@@ -1,6 +1,5 @@
 -- `reference_test::forms::appended` is safe: the product of two numbers that are cut off is below the product of where they are cut.
-use Prim.Native.Nat.{ℕ, ◌*◌, ◌%◌, ◌≤◌}
-use native.Mathlib.Omega.{arith}
+use Rattle.std.proofs.Common.{ℕ, ◌*◌, ◌%◌, ◌≤◌, arith}
 use native.Mathlib.Nat.{mul-le-mul}
 use Rattle.reference_test.proofs.forms.appended.Goals as goal
 

@@ -1,5 +1,5 @@
 -- `reference_test::forms::rank` is safe and ends: it counts `k` up to 1,000.
-use Prim.Native.Nat.{◌-◌, ◌≤◌}
+use Rattle.std.proofs.Common.{◌-◌, ◌≤◌}
 use Rattle.reference_test.proofs.forms.rank.Given as goal
 
 abbrev pub invariant-loop-k : goal.invariant-loop-k

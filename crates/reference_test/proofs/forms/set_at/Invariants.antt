@@ -1,5 +1,5 @@
 -- `reference_test::forms::set_at` is safe and ends: it counts `i` up to `count`.
-use Prim.Native.Nat.{◌-◌, ◌≤◌}
+use Rattle.std.proofs.Common.{◌-◌, ◌≤◌}
 use Rattle.reference_test.proofs.forms.set_at.Given as goal
 
 abbrev pub invariant-loop-i : goal.invariant-loop-i

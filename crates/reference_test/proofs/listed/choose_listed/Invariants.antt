@@ -1,5 +1,5 @@
 -- `reference_test::listed::choose_listed` is safe and ends: it counts `k` up to `lines`.
-use Prim.Native.Nat.{◌-◌, ◌≤◌}
+use Rattle.std.proofs.Common.{◌-◌, ◌≤◌}
 use Rattle.reference_test.proofs.listed.choose_listed.Given as goal
 
 abbrev pub invariant-loop-k : goal.invariant-loop-k

@@ -1,5 +1,5 @@
 -- `reference_test::listed::chosen` is safe and ends: it counts `k` up to `lines`.
-use Prim.Native.Nat.{◌-◌, ◌≤◌}
+use Rattle.std.proofs.Common.{◌-◌, ◌≤◌}
 use Rattle.reference_test.proofs.listed.chosen.Given as goal
 
 abbrev pub invariant-loop-k : goal.invariant-loop-k

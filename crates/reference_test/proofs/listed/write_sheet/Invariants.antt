@@ -1,5 +1,5 @@
 -- `reference_test::listed::write_sheet` is safe and ends: it counts `i` up to `lines`.
-use Prim.Native.Nat.{◌-◌, ◌≤◌}
+use Rattle.std.proofs.Common.{◌-◌, ◌≤◌}
 use Rattle.reference_test.proofs.listed.write_sheet.Given as goal
 
 abbrev pub invariant-loop-i : goal.invariant-loop-i
