@@ -18,8 +18,8 @@ use Rattle.run.specs.AnswersExact.{report-refused-exactly}
 use Rattle.run.specs.declared.Run.{Run}
 use Rattle.house.specs.Housing.{HouseIs, lane_after, reporting, singly}
 use Rattle.house.specs.Answers.{AllMove, Drivable, Driven, HouseAnswerIs, HouseRefused as HouseRefusedIs, LaneRefused, LowestRefused, NotDrivable, NotRefused, Reports}
-use Rattle.house.specs.AnswersExact.{accepted-not-refused, house-exactly}
-use Rattle.house.specs.HousingLaws.{drivable-or-not, not-both}
+use Rattle.house.proofs.AnswersExact.{accepted-not-refused, house-exactly}
+use Rattle.house.proofs.HousingLaws.{drivable-or-not, not-both}
 use Rattle.house.specs.declared.Housed.{Housed}
 use Rattle.house.specs.declared.Housed.TheVariants.{Moved, Refused as HouseRefused}
 use Rattle.demands.proofs.RowLaws.{clear-refuses-none}

@@ -1,5 +1,5 @@
 -- The refusal table for a house's report (document 02, order 7): the condition of each answer. That each is given exactly when its condition
--- holds is proved in specs/AnswersExact.antt.
+-- holds is proved in proofs/AnswersExact.antt.
 use Rattle.std.specs.Prelude.{ℕ, ◌≤◌, ◌<◌, ◌≡◌, ◌⊎◌, List, length, get_or}
 use Rattle.search.specs.Below.{count_below}
 use Rattle.refusal.specs.declared.Refusal.{Refusal}
@@ -26,7 +26,7 @@ pub record Drivable (lanes reports : ℕ) : Type 0 where
 abbrev pub Reports : (reports : List ℕ) → ℕ → Type 0
 Reports reports lane = get_or reports lane 65535 ≡ 65535 → ⊥
 
--- 13, 18, 15 and 16: what a single report gives where the plate is accepted (specs/AnswersExact.antt, `accepted-lane-gives`)
+-- 13, 18, 15 and 16: what a single report gives where the plate is accepted (proofs/AnswersExact.antt, `accepted-lane-gives`)
 abbrev pub OfLane : Refusal → Type 0
 OfLane Position = Unit {0}
 OfLane Held = Unit {0}

@@ -3,8 +3,3 @@ pub mod Answers
 pub mod AnyCalls
 pub mod Driving
 pub mod Copies
-pub mod HousingLaws
-pub mod DrivingLaws
-pub mod Lent
-pub mod AnswersExact
-pub mod AnyCallsHold

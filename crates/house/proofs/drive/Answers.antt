@@ -2,7 +2,7 @@
 use Rattle.std.proofs.Common.{length, refl, sym, ◌∙◌}
 use Rattle.checking.specs.CheckingLaws.{decoded-ascending}
 use Rattle.house.specs.Answers.{Drivable}
-use Rattle.house.specs.HousingLaws.{drivable-true, drive-refused, drive-taken, drive-undrivable, not-drivable, some-drivable}
+use Rattle.house.proofs.HousingLaws.{drivable-true, drive-refused, drive-taken, drive-undrivable, not-drivable, some-drivable}
 use Rattle.house.proofs.drive.Goals as goal
 
 pub returns-then-lanes_of-eq0 : goal.returns-then-lanes_of-eq0

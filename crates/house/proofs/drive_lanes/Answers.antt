@@ -1,7 +1,7 @@
 -- `drive_lanes` meets its contract. The loop's invariant: each lane below the present one passes and has its moved record, and the later
 -- records are as they were. So the first refusal that is met is the lowest lane's, and past the last lane every record is as it shall be.
 use Rattle.std.proofs.Common.{◌<◌, length, arith, rules}
-use Rattle.house.specs.DrivingLaws.{lane-moved, lane-quiet, lane-refused, lanes-begin, lanes_end, moved-bound}
+use Rattle.house.proofs.DrivingLaws.{lane-moved, lane-quiet, lane-refused, lanes-begin, lanes_end, moved-bound}
 use Rattle.house.proofs.drive_lanes.Goals as goal
 use Rattle.house.proofs.drive_lanes.Goals.{then-to+in-Taken, else-to}
 

@@ -1,7 +1,7 @@
 -- `drive_lanes` meets its contract. The loop's invariant: each lane below the present one passes and has its moved record, and the later
 -- records are as they were. So the first refusal that is met is the lowest lane's, and past the last lane every record is as it shall be.
 use Rattle.std.proofs.Common.{◌-◌}
-use Rattle.house.specs.DrivingLaws.{LanesPassed}
+use Rattle.house.proofs.DrivingLaws.{LanesPassed}
 use Rattle.house.proofs.drive_lanes.Given as goal
 
 abbrev pub invariant-loop-lane : goal.invariant-loop-lane

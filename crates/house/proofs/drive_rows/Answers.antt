@@ -1,7 +1,7 @@
 -- `drive_rows` meets its contract: Checking's refusal is the house's, and an accepted plate, which is of the form, is gone on with.
 use Rattle.std.proofs.Common.{refl}
 use Rattle.checking.specs.CheckingLaws.{accepted-form}
-use Rattle.house.specs.HousingLaws.{rows-accepted, rows-refused}
+use Rattle.house.proofs.HousingLaws.{rows-accepted, rows-refused}
 use Rattle.house.proofs.drive_rows.Goals as goal
 
 pub drive_lanes-requires : goal.drive_lanes-requires

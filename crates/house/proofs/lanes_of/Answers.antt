@@ -1,5 +1,5 @@
 -- `lanes_of` meets its contract: each test that fails is one of `drivable`, and without lanes there are none to drive.
-use Rattle.house.specs.HousingLaws.{driven-all, driven-many, driven-unequal}
+use Rattle.house.proofs.HousingLaws.{driven-all, driven-many, driven-unequal}
 use Rattle.house.proofs.lanes_of.Goals as goal
 
 pub returns-then-lanes-reports : goal.returns-then-lanes-reports

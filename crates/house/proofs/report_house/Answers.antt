@@ -1,6 +1,6 @@
 -- `report_house` meets its contract: the house that is driven has the lent row's first records, and as many as it then has to be put back go
 -- back, so this is a report of the lent house.
-use Rattle.house.specs.Lent.{count_fits, lent-house, written-fits}
+use Rattle.house.proofs.Lent.{count_fits, lent-house, written-fits}
 use Rattle.house.proofs.report_house.Goals as goal
 
 pub take_out-held-requires : goal.take_out-held-requires

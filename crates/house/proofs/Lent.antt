@@ -20,8 +20,8 @@ use Rattle.run.specs.declared.Run.{Run}
 use Rattle.run.specs.declared.Reported.{Reported}
 use Rattle.house.specs.Housing.{DriveIs, HouseIs, checked_answer, drivable, driven_lanes, house_answer, lane_after, lane_moved, lane_passes, lane_refused, lane_reported, lanes_answer, singly, written_by}
 use Rattle.house.specs.Copies.{copied, copied-length, no_runs}
-use Rattle.house.specs.HousingLaws.{drivable-is}
-use Rattle.house.specs.DrivingLaws.{quiet-stays}
+use Rattle.house.proofs.HousingLaws.{drivable-is}
+use Rattle.house.proofs.DrivingLaws.{quiet-stays}
 use Rattle.house.specs.declared.Housed.{Housed}
 use Rattle.house.specs.declared.Housed.TheVariants.{Moved, Refused}
 use Rattle.house.specs.declared.House.{House}

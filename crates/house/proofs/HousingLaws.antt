@@ -29,7 +29,7 @@ use Rattle.run.specs.declared.Run.{Run}
 use Rattle.house.specs.Housing.{DriveIs, checked_answer, drivable, driven_lanes, house_answer, singly}
 use Rattle.house.specs.Answers.{Drivable, NotDrivable}
 use Rattle.house.specs.Driving.{HandedBack, LanesDriven, RowsDriven, any_plate, refused_house}
-use Rattle.house.specs.DrivingLaws.{driven-refused}
+use Rattle.house.proofs.DrivingLaws.{driven-refused}
 use Rattle.house.specs.declared.House.{House}
 
 -- Lanes and reports

@@ -23,7 +23,7 @@ use Rattle.run.specs.declared.Answer.{Answer}
 use Rattle.run.specs.declared.Answer.TheVariants.{Taken, Refused as Declined}
 use Rattle.house.specs.Housing.{checked_answer, house_answer, lane_passes, lane_refused, lane_reported, lanes_answer, refused_at, reporting, singly, taken}
 use Rattle.house.specs.Answers.{Drivable, Driven, HouseAnswerIs, LaneRefused, NotRefused, OfLane, Reports}
-use Rattle.house.specs.HousingLaws.{drivable-false, drivable-or-not, drivable-true}
+use Rattle.house.proofs.HousingLaws.{drivable-false, drivable-or-not, drivable-true}
 use Rattle.house.specs.declared.Housed.{Housed}
 use Rattle.house.specs.declared.Housed.TheVariants.{Moved, Refused}
 
