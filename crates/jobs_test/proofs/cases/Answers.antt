@@ -1,5 +1,4 @@
 -- `cases` is safe and ends: it counts the cases.
-use Rattle.std.proofs.Common.{◌-◌}
 use Rattle.cases.specs.CaseLaws.{case-ordered}
 use Rattle.jobs_test.proofs.cases.Goals as goal
 
