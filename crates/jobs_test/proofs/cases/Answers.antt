@@ -1,7 +1,6 @@
 -- `cases` is safe and ends: it counts the cases.
-use Rattle.std.proofs.Common.{◌-◌}
 use Rattle.cases.specs.CaseLaws.{case-ordered}
 use Rattle.jobs_test.proofs.cases.Goals as goal
 
-pub show_case-next-requires : goal.show_case-next-requires
-show_case-next-requires g c = rw c.case_at.ensures (case-ordered _ _)
+pub show_case-requires : goal.show_case-requires
+show_case-requires g c = rw c.case_at.ensures (case-ordered _ _)
