@@ -18,6 +18,8 @@ MOVES = {
     "numbering": "SetLaws NumeralLaws DigitLaws MoveLists SquareLaws ArenaLaws EverySmall OrderLaws TextLaws".split(),
     "demands": "Demand1Holds HouseRows ReportRows RowLaws RuinRows SmallRows Demand3Holds SmallChartsHold EdgeChartsHold TwoWaysHold "
                "BlankMarksHold GoodMovesHold RestHolds WayToRuinHolds".split(),
+    "run": "RunningLaws AnswersExact AnyTextsHold Followed".split(),
+    "house": "AnswersExact AnyCallsHold DrivingLaws HousingLaws Lent".split(),
 }
 # Theorems that stood beside definitions in one file: the file, the new one, what went there.
 SPLITS = {

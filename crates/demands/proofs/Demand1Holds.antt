@@ -35,7 +35,7 @@ use Rattle.comparing.specs.Comparing.{value_number, worth_number, first_differen
 use Rattle.comparing.specs.Order.{first-the-chart, then-ten, then-eleven, then-twelve, then-fourteen, then-the-rows}
 use Rattle.comparing.specs.declared.Compared.TheVariants.{Agree, Differ, Refused as ComparingRefused}
 use Rattle.run.specs.Running.{begun_at, started}
-use Rattle.run.specs.AnswersExact.{start-exactly}
+use Rattle.run.proofs.AnswersExact.{start-exactly}
 use Rattle.run.specs.declared.Started.TheVariants.{Refused as StartRefused}
 use Rattle.run.specs.declared.Reported.{Reported}
 use Rattle.demands.proofs.RowLaws.{Settled, Tests, short-test, three-short, both-test, inside-test, no_rows, test-row, chart-row, form-row, fault-row, with-lent, choice_test}

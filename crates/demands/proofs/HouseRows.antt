@@ -14,7 +14,7 @@ use Rattle.checking.specs.Checking.{checked}
 use Rattle.checking.specs.declared.Checked.{Checked}
 use Rattle.checking.specs.declared.Checked.TheVariants.{Accepted, Refused as CheckingRefused}
 use Rattle.run.specs.Running.{no_run}
-use Rattle.run.specs.AnswersExact.{report-refused-exactly}
+use Rattle.run.proofs.AnswersExact.{report-refused-exactly}
 use Rattle.run.specs.declared.Run.{Run}
 use Rattle.house.specs.Housing.{HouseIs, lane_after, reporting, singly}
 use Rattle.house.specs.Answers.{AllMove, Drivable, Driven, HouseAnswerIs, HouseRefused as HouseRefusedIs, LaneRefused, LowestRefused, NotDrivable, NotRefused, Reports}

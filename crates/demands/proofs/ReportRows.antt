@@ -21,7 +21,7 @@ use Rattle.moves.specs.declared.Kind.{Kind}
 use Rattle.moves.specs.declared.Kind.TheVariants.{Meant, Disturbance, Neither}
 use Rattle.run.specs.Running.{advice_at, moved, reported}
 use Rattle.run.specs.Answers.{Readable, Stands, Moves, ReportIs, ReportRefused as ReportRefusedIs}
-use Rattle.run.specs.AnswersExact.{report-exactly, report-refused-exactly}
+use Rattle.run.proofs.AnswersExact.{report-exactly, report-refused-exactly}
 use Rattle.run.specs.declared.Run.{Run}
 use Rattle.run.specs.declared.Advice.{Advice}
 use Rattle.run.specs.declared.Reported.{Reported}

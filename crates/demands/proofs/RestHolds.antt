@@ -15,7 +15,7 @@ use Rattle.moves.specs.Moves.{KindSays, move_kind}
 use Rattle.moves.specs.MoveLaws.{kind-exactly}
 use Rattle.moves.specs.declared.Kind.{Kind}
 use Rattle.moves.specs.declared.Kind.TheVariants.{Meant as MeantMove, Disturbance as Disturbed}
-use Rattle.run.specs.AnswersExact.{report-exactly}
+use Rattle.run.proofs.AnswersExact.{report-exactly}
 use Rattle.run.specs.Running.{reported}
 use Rattle.run.specs.declared.Run.{Run}
 use Rattle.run.specs.declared.Advice.{Advice}

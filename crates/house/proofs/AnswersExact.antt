@@ -17,7 +17,7 @@ use Rattle.checking.specs.declared.Checked.{Checked}
 use Rattle.checking.specs.declared.Checked.TheVariants.{Accepted, Refused as NotAccepted}
 use Rattle.run.specs.Running.{no_run, reported}
 use Rattle.run.specs.Answers.{ReportRefused}
-use Rattle.run.specs.AnswersExact.{report-refused-exactly}
+use Rattle.run.proofs.AnswersExact.{report-refused-exactly}
 use Rattle.run.specs.declared.Run.{Run}
 use Rattle.run.specs.declared.Answer.{Answer}
 use Rattle.run.specs.declared.Answer.TheVariants.{Taken, Refused as Declined}

@@ -1,6 +1,6 @@
 -- The guarantee of order 5 at each lane that keeps its run. A call does to a lane's record what the single reports that the lane has by it do, if
 -- any; so after a row of calls the record is the run after the lane's own single reports, and what is shown of these
--- (run/specs/AnyTextsHold.antt) holds of it.
+-- (run/proofs/AnyTextsHold.antt) holds of it.
 use Rattle.std.specs.Prelude.{ℕ, ◌≡◌, Bool, List, [], ◌∷◌, ◌++◌}
 use Rattle.std.proofs.Math.Path.{refl, ap, subst}
 use Rattle.std.proofs.Common.{sym, ◌∙◌}
@@ -13,7 +13,7 @@ use Rattle.game.specs.Value.{Value, ◌≼◌, ◌⊕◌}
 use Rattle.plate.specs.Read.{value_in_plate}
 use Rattle.run.specs.Running.{no_run, started}
 use Rattle.run.specs.AnyTexts.{Report, Sustained, Texts, answered, run_after, seen_after, texts_after}
-use Rattle.run.specs.AnyTextsHold.{run-sustains-any-texts}
+use Rattle.run.proofs.AnyTextsHold.{run-sustains-any-texts}
 use Rattle.run.specs.declared.Run.{Run}
 use Rattle.run.specs.declared.Advice.{Advice}
 use Rattle.run.specs.declared.Started.TheVariants.{Begun}

@@ -1,5 +1,5 @@
 -- The refusal table for a start and a report: the condition of each answer. That each is given exactly when its condition holds is
--- proved in specs/AnswersExact.antt.
+-- proved in proofs/AnswersExact.antt.
 use Rattle.std.specs.Prelude.{ℕ, ◌+◌, ◌≤◌, ◌<◌, ◌≡◌, ◌⊎◌, List}
 use Rattle.rows.specs.Numbers.{number_of}
 use Rattle.game.specs.Arena.{size}

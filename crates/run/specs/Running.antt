@@ -39,7 +39,7 @@ run_of position seen initial value = record { position = position; seen = seen; 
 unfoldable pub run_at : List ℕ → ℕ → Run
 run_at plate position = run_of position 0 (number_of (value_in_plate plate position)) (number_of (value_in_plate plate position))
 
--- no run: its position, the largest number, is on no chart (specs/AnswersExact.antt: a report of it gives 13)
+-- no run: its position, the largest number, is on no chart (proofs/AnswersExact.antt: a report of it gives 13)
 abbrev pub no_run : Run
 no_run = run_of 18446744073709551615 0 0 0
 

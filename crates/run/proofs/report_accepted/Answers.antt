@@ -1,7 +1,7 @@
 -- `report_accepted` meets its contract: another value than the held one is 18, and then each kind of move has its answer.
 use borrow.Author.Tests.{lt-ltb, le-ltb}
 use Rattle.run.specs.Running.{reported_move}
-use Rattle.run.specs.RunningLaws.{choice-of, held-report, not-held, value_of}
+use Rattle.run.proofs.RunningLaws.{choice-of, held-report, not-held, value_of}
 use Rattle.run.proofs.report_accepted.Goals as goal
 
 pub returns-then-here-run : goal.returns-then-here-run

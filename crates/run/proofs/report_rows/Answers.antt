@@ -1,6 +1,6 @@
 -- `report_rows` meets its contract: a position outside is 13 or 11, else Checking's refusal is handed on, and an accepted plate is gone into.
 use Rattle.checking.specs.CheckingLaws.{accepted-form}
-use Rattle.run.specs.RunningLaws.{accepted-report, own-outside, refused-report, to-outside}
+use Rattle.run.proofs.RunningLaws.{accepted-report, own-outside, refused-report, to-outside}
 use Rattle.run.proofs.report_rows.Goals as goal
 
 pub returns-then-n-run : goal.returns-then-n-run

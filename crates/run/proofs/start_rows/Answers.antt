@@ -2,7 +2,7 @@
 use native.Mathlib.Omega.{arith}
 use mathlib.Core.Path.{refl}
 use Rattle.checking.specs.CheckingLaws.{accepted-form}
-use Rattle.run.specs.RunningLaws.{start-inside, start_outside, started_checked}
+use Rattle.run.proofs.RunningLaws.{start-inside, start_outside, started_checked}
 use Rattle.run.proofs.start_rows.Goals as goal
 
 pub returns-then-n-position : goal.returns-then-n-position

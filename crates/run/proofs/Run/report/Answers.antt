@@ -3,7 +3,7 @@ use mathlib.Core.Path.{◌≡◌, sym, ◌∙◌}
 use Rattle.chart.specs.Examined.{examined}
 use Rattle.chart.specs.declared.Examination.TheVariants.{Accepted}
 use Rattle.checking.specs.CheckingLaws.{decoded-ascending}
-use Rattle.run.specs.RunningLaws.{report-refused, report-taken}
+use Rattle.run.proofs.RunningLaws.{report-refused, report-taken}
 use Rattle.run.proofs.Run.report.Goals as goal
 
 pub report_rows-requires : goal.report_rows-requires

@@ -1,5 +1,5 @@
 -- `report_checked` meets its contract: a position outside is 13, and else the report goes on after the plate's test.
-use Rattle.run.specs.RunningLaws.{checked-inside, checked-outside, checked-own-outside}
+use Rattle.run.proofs.RunningLaws.{checked-inside, checked-outside, checked-own-outside}
 use Rattle.run.proofs.Run.report_checked.Goals as goal
 
 pub returns-then-n-self : goal.returns-then-n-self

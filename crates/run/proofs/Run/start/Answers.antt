@@ -1,7 +1,7 @@
 -- `Run::start` meets its contract: the chart's refusal is handed on, and a loaded chart's rows answer the start.
 use mathlib.Core.Path.{sym, ◌∙◌}
 use Rattle.checking.specs.CheckingLaws.{decoded-ascending}
-use Rattle.run.specs.RunningLaws.{start-refused, start-taken}
+use Rattle.run.proofs.RunningLaws.{start-refused, start-taken}
 use Rattle.run.proofs.Run.start.Goals as goal
 
 pub start_rows-requires : goal.start_rows-requires

@@ -23,9 +23,9 @@ use Rattle.moves.specs.Moves.{move_kind}
 use Rattle.moves.specs.MoveLaws.{meant-follows, disturbance-follows}
 use Rattle.run.specs.Running.{moved, reported, run_at, started}
 use Rattle.run.specs.Answers.{ReportIs, StartIs}
-use Rattle.run.specs.AnswersExact.{start-exactly}
+use Rattle.run.proofs.AnswersExact.{start-exactly}
 use Rattle.run.specs.AnyTexts.{Report, Texts, answered, run_after, seen_after, stands_on, texts_after}
-use Rattle.run.specs.AnyTextsHold.{Standing, report-does, stands-with-any-texts, sustained}
+use Rattle.run.proofs.AnyTextsHold.{Standing, report-does, stands-with-any-texts, sustained}
 use Rattle.run.specs.Following.{Follows, grown, trail_after, trail_with, with_texts}
 use Rattle.moves.specs.declared.Kind.{Kind}
 use Rattle.moves.specs.declared.Kind.TheVariants.{Meant, Disturbance}

@@ -22,7 +22,7 @@ use Rattle.moves.specs.MoveLaws.{meant-follows, disturbance-follows}
 use Rattle.moves.specs.declared.Kind.{Kind}
 use Rattle.run.specs.Running.{moved, reported, run_at, started}
 use Rattle.run.specs.Answers.{Moves, ReportIs, StartIs}
-use Rattle.run.specs.AnswersExact.{report-exactly, start-exactly}
+use Rattle.run.proofs.AnswersExact.{report-exactly, start-exactly}
 use Rattle.run.specs.AnyTexts.{Report, Sustained, Texts, answered, disturbing, kind_of, run_after, seen_after, stands_on, texts_after}
 use Rattle.run.specs.declared.Run.{Run}
 use Rattle.run.specs.declared.Advice.{Advice}
