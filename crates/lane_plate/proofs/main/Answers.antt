@@ -1,5 +1,5 @@
 -- `main` meets its contract: what was read and what was answered are within their buffers.
-use Rattle.std.proofs.Common.{◌-◌, sym}
+use Rattle.std.proofs.Common.{sym}
 use lib.Seq.{length-take-le}
 use Rattle.response.specs.Response.{responded-fits}
 use Rattle.lane_plate.proofs.main.Goals as goal
