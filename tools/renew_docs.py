@@ -25,7 +25,8 @@ def index():
 
 
 def best(name, among):
-    same = sorted(w for w in among if norm(w) == norm(name))
+    # (camelCase is a definition's old spelling, a dash a lemma's)
+    same = sorted((w for w in among if norm(w) == norm(name)), key=lambda w: "-" in w)
     lower = [w for w in same if w[:1].islower() == name[:1].islower()]
     return (lower or same or [None])[0]
 
@@ -59,7 +60,7 @@ def main():
     for page in PAGES:
         was = open(page, encoding="utf-8").read()
         now = re.sub(r"`([^`\n]+)`", turn, was)
-        now = re.sub(r"\b([a-z_]+/)?specs/([A-Z]\w*)\.antt", lambda m: m.group(0) if not m.group(1) or os.path.exists(f"crates/{m.group(0)}") else f"{m.group(1)}proofs/{m.group(2)}.antt", now)
+        now = re.sub(r"\b([a-z_]+)/specs/([A-Z]\w*)\.antt", lambda m: f"{m.group(1)}/proofs/{m.group(2)}.antt" if os.path.exists(f"crates/{m.group(1)}/proofs/{m.group(2)}.antt") else m.group(0), now)
         if page == "docs/READING.md":
             def counted(m):
                 names = re.findall(r"`([a-z_]+)/([A-Za-z0-9]+)`", m.group(1))
