@@ -1,3 +1,3 @@
-// This crate has no code: the demands and their proofs are in specs/.
+// This crate has no code: the demands are in specs/, their proofs there and in proofs/.
 
 #![tactic(auto)]

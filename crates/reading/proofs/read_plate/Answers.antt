@@ -7,6 +7,8 @@ use Rattle.chart.specs.Accepted.{accepted-few}
 use Rattle.search.proofs.Cases.{cases}
 use borrow.Author.Tests.{le-leb}
 use mathlib.Core.Path.{◌≡◌, sym, ◌∙◌}
+use Rattle.std.proofs.Common.{arith}
+use Rattle.std.specs.Prelude.{true, leb, length}
 use Rattle.reading.proofs.read_plate.Goals as goal
 
 pub returns-then-values-n : goal.returns-then-values-n
@@ -32,14 +34,16 @@ returns-in-Refused c = reading-refused (sym c.examine.ensures ∙ c.in-Refused.i
 pub returns-in-Bad : goal.returns-in-Bad
 returns-in-Bad c =
     let accepted : examined c.args.text.now ≡ Accepted c.in-Accepted.chart = sym c.examine.ensures ∙ c.in-Accepted.is in
+    let steps : leb c.in-Accepted.chart.positions (length c.args.steps.now) ≡ true = le-leb _ _ (omega arith) in
     reading-malformed (accepted)
-    (simp (le-leb _ _ c.if-values-n.false, le-leb _ _ c.if-choices-n.false, le-leb _ _ c.if-steps-n.false))
+    (simp (le-leb _ _ c.if-values-n.false, le-leb _ _ c.if-choices-n.false, steps))
     (sym c.examine_plate.ensures ∙ c.in-Bad.is)
 
 pub returns-in-Good : goal.returns-in-Good
 returns-in-Good c =
     let accepted : examined c.args.text.now ≡ Accepted c.in-Accepted.chart = sym c.examine.ensures ∙ c.in-Accepted.is in
+    let steps : leb c.in-Accepted.chart.positions (length c.args.steps.now) ≡ true = le-leb _ _ (omega arith) in
     reading-taken (accepted)
-    (simp (le-leb _ _ c.if-values-n.false, le-leb _ _ c.if-choices-n.false, le-leb _ _ c.if-steps-n.false))
+    (simp (le-leb _ _ c.if-values-n.false, le-leb _ _ c.if-choices-n.false, steps))
     (sym c.examine_plate.ensures ∙ c.in-Good.is)
     c.read_rows.ensures
