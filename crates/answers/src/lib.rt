@@ -3,20 +3,12 @@
 #![tactic(auto)]
 
 ghost use Rattle.std.specs.Prelude.{◌≡◌};
-ghost use Rattle.answers.specs.Numbers.{answer_numbers, checked_numbers, compared_numbers, housed_numbers, indexed_numbers, listed_numbers, reading_numbers, refused_step, reported_numbers, started_numbers, valued_numbers, weighed_numbers, written_numbers};
+ghost use Rattle.answers.specs.Numbers.{answer_numbers, compared_numbers, count_numbers, housed_numbers, reading_numbers, refusal_numbers, refused_step, reported_numbers, started_numbers, valued_numbers};
 
-use checking::Checked;
-use comparing::Compared;
-use house::Housed;
-use indexing::Indexed;
-use listing::Listed;
-use reading::Reading;
+use comparing::Difference;
 use refusal::{Numbers, Refusal};
 use rows::FirstLine;
-use run::{Advice, Answer, Reported, Run, Started};
-use valuing::Valued;
-use weighing::Weighed;
-use writing::Written;
+use run::{Advice, Reported, Run};
 
 #[repr(C)]
 #[derive(Clone, Copy)]
@@ -25,11 +17,13 @@ pub struct ValuedNumbers {
     pub rounds: u16,
 }
 
+// A job that answers one number: a length in bytes (Writing, Generating), a count of lines (the sheets) or an index (Indexing). C has a name
+// of its own for each.
 #[repr(C)]
 #[derive(Clone, Copy)]
-pub struct WrittenNumbers {
+pub struct CountNumbers {
     pub refusal: Numbers,
-    pub length: usize,
+    pub count: usize,
 }
 
 #[repr(C)]
@@ -47,20 +41,6 @@ pub struct ComparedNumbers {
     pub position: usize,
     pub value: u16,
     pub worth: u16,
-}
-
-#[repr(C)]
-#[derive(Clone, Copy)]
-pub struct ListedNumbers {
-    pub refusal: Numbers,
-    pub lines: usize,
-}
-
-#[repr(C)]
-#[derive(Clone, Copy)]
-pub struct IndexedNumbers {
-    pub refusal: Numbers,
-    pub index: usize,
 }
 
 // A run that was started or moved on, or that a refusal left as it was.
@@ -81,46 +61,46 @@ pub struct HouseNumbers {
     pub moved: usize,
 }
 
-pub fn valued_numbers(answer: Valued) -> ValuedNumbers
+pub fn valued_numbers(answer: Result<u16, Refusal>) -> ValuedNumbers
     ensures { result ≡ valued_numbers answer }
 {
     match answer {
-        Valued::Rounds(rounds) => ValuedNumbers {
+        Ok(rounds) => ValuedNumbers {
             refusal: Numbers::none(),
             rounds,
         },
-        Valued::Refused(r) => ValuedNumbers {
-            refusal: r.numbers(),
+        Err(r) => ValuedNumbers {
+            refusal: Numbers::from(r),
             rounds: 0,
         },
     }
 }
 
-pub fn written_numbers(answer: Written) -> WrittenNumbers
-    ensures { result ≡ written_numbers answer }
+pub fn count_numbers(answer: Result<usize, Refusal>) -> CountNumbers
+    ensures { result ≡ count_numbers answer }
 {
     match answer {
-        Written::Length(length) => WrittenNumbers {
+        Ok(count) => CountNumbers {
             refusal: Numbers::none(),
-            length,
+            count,
         },
-        Written::Refused(r) => WrittenNumbers {
-            refusal: r.numbers(),
-            length: 0,
+        Err(r) => CountNumbers {
+            refusal: Numbers::from(r),
+            count: 0,
         },
     }
 }
 
-pub fn reading_numbers(answer: Reading) -> ReadingNumbers
+pub fn reading_numbers(answer: Result<FirstLine, Refusal>) -> ReadingNumbers
     ensures { result ≡ reading_numbers answer }
 {
     match answer {
-        Reading::Rows(first) => ReadingNumbers {
+        Ok(first) => ReadingNumbers {
             refusal: Numbers::none(),
             first,
         },
-        Reading::Refused(r) => ReadingNumbers {
-            refusal: r.numbers(),
+        Err(r) => ReadingNumbers {
+            refusal: Numbers::from(r),
             first: FirstLine {
                 rounds: 0,
                 highest: 0,
@@ -130,44 +110,36 @@ pub fn reading_numbers(answer: Reading) -> ReadingNumbers
     }
 }
 
-pub fn checked_numbers(answer: Checked) -> Numbers
-    ensures { result ≡ checked_numbers answer }
+// The numbers of a job that answers nothing but whether it refuses: Checking's and Weighing's.
+pub fn refusal_numbers(answer: Result<(), Refusal>) -> Numbers
+    ensures { result ≡ refusal_numbers answer }
 {
     match answer {
-        Checked::Accepted => Numbers::none(),
-        Checked::Refused(r) => r.numbers(),
+        Ok(()) => Numbers::none(),
+        Err(r) => Numbers::from(r),
     }
 }
 
-pub fn weighed_numbers(answer: Weighed) -> Numbers
-    ensures { result ≡ weighed_numbers answer }
-{
-    match answer {
-        Weighed::Done => Numbers::none(),
-        Weighed::Refused(r) => r.numbers(),
-    }
-}
-
-pub fn compared_numbers(answer: Compared) -> ComparedNumbers
+pub fn compared_numbers(answer: Result<Option<Difference>, Refusal>) -> ComparedNumbers
     ensures { result ≡ compared_numbers answer }
 {
     match answer {
-        Compared::Agree => ComparedNumbers {
+        Ok(None) => ComparedNumbers {
             refusal: Numbers::none(),
             agree: true,
             position: 0,
             value: 0,
             worth: 0,
         },
-        Compared::Differ(position, value, worth) => ComparedNumbers {
+        Ok(Some(d)) => ComparedNumbers {
             refusal: Numbers::none(),
             agree: false,
-            position,
-            value,
-            worth,
+            position: d.position,
+            value: d.value,
+            worth: d.worth,
         },
-        Compared::Refused(r) => ComparedNumbers {
-            refusal: r.numbers(),
+        Err(r) => ComparedNumbers {
+            refusal: Numbers::from(r),
             agree: false,
             position: 0,
             value: 0,
@@ -176,46 +148,16 @@ pub fn compared_numbers(answer: Compared) -> ComparedNumbers
     }
 }
 
-pub fn listed_numbers(answer: Listed) -> ListedNumbers
-    ensures { result ≡ listed_numbers answer }
-{
-    match answer {
-        Listed::Lines(lines) => ListedNumbers {
-            refusal: Numbers::none(),
-            lines,
-        },
-        Listed::Refused(r) => ListedNumbers {
-            refusal: r.numbers(),
-            lines: 0,
-        },
-    }
-}
-
-pub fn indexed_numbers(answer: Indexed) -> IndexedNumbers
-    ensures { result ≡ indexed_numbers answer }
-{
-    match answer {
-        Indexed::Index(index) => IndexedNumbers {
-            refusal: Numbers::none(),
-            index,
-        },
-        Indexed::Refused(r) => IndexedNumbers {
-            refusal: r.numbers(),
-            index: 0,
-        },
-    }
-}
-
-pub fn started_numbers(answer: Started) -> Step
+pub fn started_numbers(answer: Result<(Run, Advice), Refusal>) -> Step
     ensures { result ≡ started_numbers answer }
 {
     match answer {
-        Started::Begun(run, advice) => Step {
+        Ok((run, advice)) => Step {
             refusal: Numbers::none(),
             run,
             advice,
         },
-        Started::Refused(r) => refused_step(r, Run::none()),
+        Err(r) => refused_step(r, Run::none()),
     }
 }
 
@@ -227,16 +169,16 @@ pub fn reported_numbers(reported: Reported) -> Step
     answer_numbers(run, answer)
 }
 
-fn answer_numbers(run: Run, answer: Answer) -> Step
+fn answer_numbers(run: Run, answer: Result<Advice, Refusal>) -> Step
     ensures { result ≡ answer_numbers run answer }
 {
     match answer {
-        Answer::Taken(advice) => Step {
+        Ok(advice) => Step {
             refusal: Numbers::none(),
             run,
             advice,
         },
-        Answer::Refused(r) => refused_step(r, run),
+        Err(r) => refused_step(r, run),
     }
 }
 
@@ -245,7 +187,7 @@ fn refused_step(refusal: Refusal, run: Run) -> Step
     ensures { result ≡ refused_step refusal run }
 {
     Step {
-        refusal: refusal.numbers(),
+        refusal: Numbers::from(refusal),
         run,
         advice: Advice {
             choice: 0,
@@ -254,17 +196,17 @@ fn refused_step(refusal: Refusal, run: Run) -> Step
     }
 }
 
-pub fn housed_numbers(answer: Housed) -> HouseNumbers
+pub fn housed_numbers(answer: Result<usize, (usize, Refusal)>) -> HouseNumbers
     ensures { result ≡ housed_numbers answer }
 {
     match answer {
-        Housed::Moved(moved) => HouseNumbers {
+        Ok(moved) => HouseNumbers {
             refusal: Numbers::none(),
             lane: 0,
             moved,
         },
-        Housed::Refused(lane, r) => HouseNumbers {
-            refusal: r.numbers(),
+        Err((lane, r)) => HouseNumbers {
+            refusal: Numbers::from(r),
             lane,
             moved: 0,
         },

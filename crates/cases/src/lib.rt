@@ -59,10 +59,7 @@ fn after(size: usize, from: usize, count: usize) -> usize
     requires { from ≤ size }
     ensures { result ≡ after size from count }
 {
-    if size - from < count {
-        return size;
-    }
-    from + count
+    from + count.min(size - from)
 }
 
 // A field's length, 0 where it has no number.

@@ -1,6 +1,6 @@
 -- The arena of an accepted text is well-formed, within the limits, with marks 0 or 1 and strictly rising moves. Each fact is one of
 -- a line (specs/Good.antt), carried over to the arena's lists.
-use Rattle.std.specs.Prelude.{ℕ, zero, suc, ◌+◌, ◌-◌, ◌≤◌, ◌<◌, ◌≡◌, refl, Bool, false, cond, length, ltb, eqb}
+use Rattle.std.specs.Prelude.{ℕ, zero, suc, ◌+◌, ◌-◌, ◌≤◌, ◌<◌, ◌≡◌, refl, Bool, false, cond, length, ltb, eqb, Ok}
 use native.Mathlib.Omega.{arith}
 use Rattle.std.proofs.Common.{le_trans, sym, ◌∙◌, inl, inr, ⊎_elim, ltb-true, ltb-false, eqb-true, ne_eqb}
 use Rattle.std.proofs.Math.Path.{ap, subst}
@@ -17,7 +17,6 @@ use Rattle.chart.specs.Examined.{above, rises, meant_line, meant_in, examined}
 use Rattle.chart.specs.Good.{GoodChart, accepted-good}
 use Rattle.chart.specs.Arenas.{arena-size, arena-moves, arena-position, arena-move}
 use Rattle.rows.specs.declared.Chart.{Chart}
-use Rattle.chart.specs.declared.Examination.TheVariants.{Accepted}
 
 -- the test of two moves is the order of moves
 above-rises : (a b : Move) → above a.from a.cost a.to b.from b.cost b.to ≡ true → Rises a b
@@ -176,14 +175,14 @@ module _ (text : List ℕ) (good : GoodChart text) where
       }
 
 -- what accepting a text says of its arena
-pub accepted-chartable : (text : List ℕ) (chart : Chart) → examined text ≡ Accepted chart → Chartable (arena_of text)
+pub accepted-chartable : (text : List ℕ) (chart : Chart) → examined text ≡ Ok chart → Chartable (arena_of text)
 accepted-chartable text chart e = chartable text (accepted-good text chart e).0
 
 -- the counts that are answered are the arena's
-pub accepted-size : (text : List ℕ) (chart : Chart) → examined text ≡ Accepted chart → size (arena_of text) ≡ chart.positions
+pub accepted-size : (text : List ℕ) (chart : Chart) → examined text ≡ Ok chart → size (arena_of text) ≡ chart.positions
 accepted-size text chart e = arena-size text ∙ ap (λ (k : Chart). k.positions) (sym (accepted-good text chart e).1)
 
-pub accepted-moves : (text : List ℕ) (chart : Chart) → examined text ≡ Accepted chart → length (arena_of text).moves ≡ chart.moves
+pub accepted-moves : (text : List ℕ) (chart : Chart) → examined text ≡ Ok chart → length (arena_of text).moves ≡ chart.moves
 accepted-moves text chart e = arena-moves text ∙ ap (λ (k : Chart). k.moves) (sym (accepted-good text chart e).1)
 
 rises-from : (a b : Move) → Rises a b → a.from ≤ b.from
@@ -205,5 +204,5 @@ froms-rise a c i j h k =
     subst (λ (k : ℕ). (move_at a i).from ≤ (move_at a k).from) e (froms-step a c i (j - i) (omega arith))
 
 -- at most 512 positions
-pub accepted-few : (text : List ℕ) (chart : Chart) → examined text ≡ Accepted chart → chart.positions ≤ 512
+pub accepted-few : (text : List ℕ) (chart : Chart) → examined text ≡ Ok chart → chart.positions ≤ 512
 accepted-few text chart e = let n = accepted-size text chart e in let h = (accepted-chartable text chart e).few-positions in omega arith

@@ -5,7 +5,7 @@ use native.Mathlib.Omega.{arith}
 use Rattle.std.proofs.Math.Decide.{dec_le}
 use Rattle.std.proofs.Math.Path.{◌≡◌, refl, sym, ap, ap₂, subst}
 use Rattle.std.proofs.Common.{◌∙◌, ext_get_or}
-use Rattle.std.specs.Prelude.{◌⊎◌, Bool, ltb, eqb}
+use Rattle.std.specs.Prelude.{◌⊎◌, Bool, ltb, eqb, ⊤, Result, Ok, Err}
 use Rattle.std.proofs.Math.Logic.{inl, inr, ⊎_elim}
 use Rattle.std.proofs.Math.Bool.{true, false, cond}
 use mathlib.Core.List.{List, [], ◌∷◌}
@@ -26,11 +26,8 @@ use Rattle.chart.specs.Meaning.{owner_of, cost_of, position_on, move_on, arena_o
 use Rattle.chart.specs.Refusals.{PositionLine}
 use Rattle.chart.specs.Examined.{header_formed, position_formed, move_formed, header_of, position_finding, rises, move_finding, line_finding, or_else, is_clean, first_fault, meant_line, meant_in, missing_at, answer, after_header, lines_after, examined}
 use Rattle.chart.specs.Header.{header-accepts}
+use Rattle.refusal.specs.declared.Misdrawn.{Misdrawn}
 use Rattle.chart.specs.Blanks.{WithoutBlanks, is_blank, ends_blank, filled_byte, filling, mark_place, InMark, SameMark, OnlyBlanksDiffer}
-use Rattle.chart.specs.declared.Finding.{Finding}
-use Rattle.chart.specs.declared.Finding.TheVariants.{Clean}
-use Rattle.chart.specs.declared.Examination.{Examination}
-use Rattle.chart.specs.declared.Examination.TheVariants.{Accepted, Refused}
 
 -- Marks
 
@@ -171,29 +168,29 @@ module _ (text other : List ℕ) (d : OnlyBlanksDiffer text other) where
   unfolding missing_at
   missing-same n m v = simp (meant-same n m v, letter-same (v + 1))
 
-  findings-same : (f g : ℕ → Finding) (count i : ℕ) → ((j : ℕ) → f j ≡ g j) → first_fault f count i ≡ first_fault g count i
-  findings-same f g count i h = first-same _ _ f g Clean count i (λ j l k. (ap is_clean (h j), h j))
+  findings-same : (f g : ℕ → Result ⊤ Misdrawn) (count i : ℕ) → ((j : ℕ) → f j ≡ g j) → first_fault f count i ≡ first_fault g count i
+  findings-same f g count i h = first-same _ _ f g (Ok tt) count i (λ j l k. (ap is_clean (h j), h j))
 
   lines_same : lines_after text (header_of text) ≡ lines_after other (header_of other)
   unfolding lines_after after_header
   lines_same = go (header_of text) refl ∙ ap (lines_after other) header-same
     where
-      go : (e : Examination) → header_of text ≡ e → lines_after text e ≡ lines_after other e
-      go (Refused r) h = refl
-      go (Accepted chart) h =
+      go : (e : Result Chart Misdrawn) → header_of text ≡ e → lines_after text e ≡ lines_after other e
+      go (Err r) h = refl
+      go (Ok chart) h =
           let counts = (header-accepts text chart h).1 in
           let n : chart.positions ≡ positions_of text = ap (λ (c : Chart). c.positions) counts in
           let lines : (i : ℕ) → line_finding text chart.positions i ≡ line_finding other chart.positions i =
           λ i. subst (λ (k : ℕ). line_finding text k i ≡ line_finding other k i) (sym n) (line_same i) in
-          ap₂ (λ (a b : Finding). answer chart (or_else a b)) (findings-same _ _ (chart.positions + chart.moves) 1 lines)
+          ap₂ (λ (a b : Result ⊤ Misdrawn). answer chart (or_else a b)) (findings-same _ _ (chart.positions + chart.moves) 1 lines)
           (findings-same _ _ chart.positions 0 (missing-same chart.positions chart.moves))
 
   -- the two get the same examination: the same refusal with its line, or the same counts
   pub examined-same : examined text ≡ examined other
   unfolding examined
   examined-same =
-      ap₂ (λ (size : ℕ) (e : Examination).
-      cond (eqb size 0) (Refused Length) (cond (ltb 55308 size) (Refused Length) (cond (eqb (size % 12) 0) e (Refused Length))))
+      ap₂ (λ (size : ℕ) (e : Result Chart Misdrawn).
+      cond (eqb size 0) (Err Length) (cond (ltb 55308 size) (Err Length) (cond (eqb (size % 12) 0) e (Err Length))))
       d.same_length lines_same
 
   position-on-same : (i : ℕ) → position_on text i ≡ position_on other i

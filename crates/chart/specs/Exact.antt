@@ -6,7 +6,7 @@ use Prim.Native.Nat.{ℕ, zero, suc, ◌+◌, ◌-◌, ◌%◌, ◌≤◌, ◌<�
 use native.Mathlib.Omega.{arith}
 use Rattle.std.proofs.Common.{eq-or-lt_of_le, le_of_suc-le-suc, sym, ap₂, ◌∙◌, inl, inr, ltb-true, ltb-false, eqb-true, eq-eqb}
 use Rattle.std.proofs.Math.Path.{◌≡◌, refl, ap, subst}
-use Rattle.std.specs.Prelude.{◌⊎◌, ◌↔◌, Bool, true, false, cond, List, [], ◌∷◌, length, get_or, ltb, eqb}
+use Rattle.std.specs.Prelude.{◌⊎◌, ◌↔◌, Bool, true, false, cond, List, [], ◌∷◌, length, get_or, ltb, eqb, ⊤, Result, Ok, Err}
 use Rattle.std.proofs.Math.Logic.{⊎_elim}
 use Rattle.std.proofs.lemmas.Bool.{eqb-false}
 use Rattle.search.proofs.FirstLaws.{first-answered}
@@ -21,19 +21,15 @@ use Rattle.chart.specs.LineExact.{Free, LineExact, finding_of, header-exact, lin
 use Rattle.rows.specs.declared.Chart.{Chart}
 use Rattle.refusal.specs.declared.Misdrawn.{Misdrawn}
 use Rattle.refusal.specs.declared.Misdrawn.TheVariants.{Length, Form, Limits, Count, Sequence, Endpoint, Disturbed, Resting, Order, NoMeant}
-use Rattle.chart.specs.declared.Finding.{Finding}
-use Rattle.chart.specs.declared.Finding.TheVariants.{Clean, Fault}
-use Rattle.chart.specs.declared.Examination.{Examination}
-use Rattle.chart.specs.declared.Examination.TheVariants.{Accepted, Refused}
 
 -- the counts of the header
 abbrev counts_of : List ℕ → Chart
 counts_of text = record { positions = positions_of text; moves = moves_of text }
 
 -- an answer is right
-abbrev Right : List ℕ → Examination → Type 0
-Right text (Refused r) = First text r
-Right text (Accepted chart) = ((s : Misdrawn) → Applies text s → ⊥) × (chart ≡ counts_of text)
+abbrev Right : List ℕ → Result Chart Misdrawn → Type 0
+Right text (Err r) = First text r
+Right text (Ok chart) = ((s : Misdrawn) → Applies text s → ⊥) × (chart ≡ counts_of text)
 
 untrue : {A : Type 0} → true ≡ false → A
 untrue e = let z : ◌≡◌ {A = ℕ} 0 1 = cc in absurd (omega arith)
@@ -82,7 +78,7 @@ module _ (text : List ℕ) where
       (eq-or-lt_of_le (le_of_suc-le-suc l))
 
   -- nothing before a refusal of line i applies, if nothing on the lines before and nothing before it on the line does
-  line_first : (i : ℕ) (r : Misdrawn) → (BadLength text → ⊥) → stage r ≡ 1 → misdrawn_line r ≡ i → ((j : ℕ) → j < i → Free text j Clean) → Free text i (Fault r) →
+  line_first : (i : ℕ) (r : Misdrawn) → (BadLength text → ⊥) → stage r ≡ 1 → misdrawn_line r ≡ i → ((j : ℕ) → j < i → Free text j (Ok tt)) → Free text i (Err r) →
       (s : Misdrawn) → Before s r → Applies text s → ⊥
   line_first i r fine p q lines line s b a =
       ⊎_elim (λ l. before l (stands s a))
@@ -96,18 +92,18 @@ module _ (text : List ℕ) where
       before l (on_line e k) = omega arith
       before l (at_position e w) = omega (arith, ap stage e)
 
-  clean_free : (i : ℕ) (d : Finding) → d ≡ Clean → LineExact text i d → Free text i Clean
-  clean_free i d e w = (subst (λ (x : Finding). LineExact text i x) e w).free
+  clean_free : (i : ℕ) (d : Result ⊤ Misdrawn) → d ≡ Ok tt → LineExact text i d → Free text i (Ok tt)
+  clean_free i d e w = (subst (λ (x : Result ⊤ Misdrawn). LineExact text i x) e w).free
 
   -- a line in the text is clean
-  free-lines : header_of text ≡ Accepted (counts_of text) → (last : ℕ) → last ≤ positions_of text + moves_of text →
-      ((j : ℕ) → 1 ≤ j → j ≤ last → line_finding text (positions_of text) j ≡ Clean) → (j : ℕ) → j ≤ last → Free text j Clean
+  free-lines : header_of text ≡ Ok (counts_of text) → (last : ℕ) → last ≤ positions_of text + moves_of text →
+      ((j : ℕ) → 1 ≤ j → j ≤ last → line_finding text (positions_of text) j ≡ Ok tt) → (j : ℕ) → j ≤ last → Free text j (Ok tt)
   free-lines h last inside clean zero l = clean_free 0 (finding_of (header_of text)) (ap finding_of h) (header-exact text)
   free-lines h last inside clean (suc j) l =
       clean_free (suc j) (line_finding text (positions_of text) (suc j)) (clean (suc j) (omega arith) l) (line-exact text (suc j) (omega arith) (omega arith))
 
   -- with no fault in the length and on the lines, what applies is refusal 9
-  last-stage : (BadLength text → ⊥) → ((j : ℕ) → j ≤ positions_of text + moves_of text → Free text j Clean) → (s : Misdrawn) → Applies text s →
+  last-stage : (BadLength text → ⊥) → ((j : ℕ) → j ≤ positions_of text + moves_of text → Free text j (Ok tt)) → (s : Misdrawn) → Applies text s →
       (s ≡ NoMeant (misdrawn_line s)) × WithoutMeant text (misdrawn_line s)
   last-stage fine lines s a = go (stands s a)
     where
@@ -116,7 +112,7 @@ module _ (text : List ℕ) where
       go (on_line e k) = absurd (lines (misdrawn_line s) k s e refl tt a)
       go (at_position e w) = (e, w)
 
-  meant-some : (i : ℕ) → WithoutMeant text i → missing_at text (positions_of text) (moves_of text) (i - 1) ≡ Clean → ⊥
+  meant-some : (i : ℕ) → WithoutMeant text i → missing_at text (positions_of text) (moves_of text) (i - 1) ≡ Ok tt → ⊥
   unfolding WithoutMeant
   meant-some i w clean =
       let here : letter_at text (i - 1 + 1) ≡ letter_at text i = ap (letter_at text) (omega (arith, w.0.0)) in
@@ -138,22 +134,22 @@ module _ (text : List ℕ) where
         (subst (λ (x : ℕ). letter_at text x ≡ 77) (sym at) p) (subst (λ (x : ℕ). from_at text x ≡ v) (sym at) w),
   )
 
-  missing-fault : (v : ℕ) (r : Misdrawn) → missing_at text (positions_of text) (moves_of text) v ≡ Fault r →
+  missing-fault : (v : ℕ) (r : Misdrawn) → missing_at text (positions_of text) (moves_of text) v ≡ Err r →
       (NoMeant (v + 1) ≡ r) × (letter_at text (v + 1) ≡ 82 → ⊥) × (meant_in text (positions_of text) (moves_of text) v ≡ false)
   unfolding missing_at
   missing-fault v r h = go (eqb (letter_at text (v + 1)) 82) (meant_in text (positions_of text) (moves_of text) v) refl refl
     where
-      clean : {A : Type 0} → Clean ≡ Fault r → A
+      clean : {A : Type 0} → Ok (tt {0}) ≡ Err r → A
       clean e = let y : ◌≡◌ {A = ℕ} 0 1 = cc in absurd (omega arith)
 
       go : (a b : Bool) → eqb (letter_at text (v + 1)) 82 ≡ a → meant_in text (positions_of text) (moves_of text) v ≡ b →
           (NoMeant (v + 1) ≡ r) × (letter_at text (v + 1) ≡ 82 → ⊥) × (meant_in text (positions_of text) (moves_of text) v ≡ false)
       go true b d e = clean (simp d at h)
       go false true d e = clean (simp (d, e) at h)
-      go false false d e = let z : Fault (NoMeant (v + 1)) ≡ Fault r = simp (d, e) at h in (cc, eqb-false (letter_at text (v + 1)) 82 d, e)
+      go false false d e = let z : Err (NoMeant (v + 1)) ≡ Err r = simp (d, e) at h in (cc, eqb-false (letter_at text (v + 1)) 82 d, e)
 
-  position_first : (BadLength text → ⊥) → ((j : ℕ) → j ≤ positions_of text + moves_of text → Free text j Clean) → (v : ℕ) →
-      WithoutMeant text (v + 1) → ((k : ℕ) → k < v → missing_at text (positions_of text) (moves_of text) k ≡ Clean) → First text (NoMeant (v + 1))
+  position_first : (BadLength text → ⊥) → ((j : ℕ) → j ≤ positions_of text + moves_of text → Free text j (Ok tt)) → (v : ℕ) →
+      WithoutMeant text (v + 1) → ((k : ℕ) → k < v → missing_at text (positions_of text) (moves_of text) k ≡ Ok tt) → First text (NoMeant (v + 1))
   position_first fine lines v without clean = record {
     applies = without;
     none_before = λ s b a.
@@ -167,61 +163,61 @@ module _ (text : List ℕ) where
   }
 
   -- where the lines are clean, a position that is no `R` is an `O` or an `L`
-  owned-position : first_fault (line_finding text (positions_of text)) (positions_of text + moves_of text) 1 ≡ Clean → (v : ℕ) → v < positions_of text →
+  owned-position : first_fault (line_finding text (positions_of text)) (positions_of text + moves_of text) 1 ≡ Ok tt → (v : ℕ) → v < positions_of text →
       (letter_at text (v + 1) ≡ 82 → ⊥) → (letter_at text (v + 1) ≡ 79) ⊎ (letter_at text (v + 1) ≡ 76)
   owned-position p v h other =
       let clean = all-clean (line_finding text (positions_of text)) (positions_of text + moves_of text) 1 p (v + 1) (omega arith) (omega arith) in
       let line = position-clean text (v + 1) (sym (line-position text (positions_of text) (v + 1) (omega arith)) ∙ clean) in
       ⊎_elim inl (⊎_elim inr (λ e. absurd (other e))) line.form.allowed
 
-  all-free : header_of text ≡ Accepted (counts_of text) → first_fault (line_finding text (positions_of text)) (positions_of text + moves_of text) 1 ≡ Clean →
-      (j : ℕ) → j ≤ positions_of text + moves_of text → Free text j Clean
+  all-free : header_of text ≡ Ok (counts_of text) → first_fault (line_finding text (positions_of text)) (positions_of text + moves_of text) 1 ≡ Ok tt →
+      (j : ℕ) → j ≤ positions_of text + moves_of text → Free text j (Ok tt)
   all-free header p =
       free-lines header (positions_of text + moves_of text) (omega arith)
       (λ j l h. all-clean (line_finding text (positions_of text)) (positions_of text + moves_of text) 1 p j l (omega arith))
 
-  some-meant : first_fault (missing_at text (positions_of text) (moves_of text)) (positions_of text) 0 ≡ Clean → (i : ℕ) → WithoutMeant text i → ⊥
+  some-meant : first_fault (missing_at text (positions_of text) (moves_of text)) (positions_of text) 0 ≡ Ok tt → (i : ℕ) → WithoutMeant text i → ⊥
   some-meant q i w =
       let line = position-line i w in
       meant-some i w (all-clean (missing_at text (positions_of text) (moves_of text)) (positions_of text) 0 q (i - 1) (omega arith) (omega (arith, line.0, line.1)))
 
   -- a fault on line i, where the lines before it are clean
-  fault-right : (BadLength text → ⊥) → header_of text ≡ Accepted (counts_of text) → (r : Misdrawn) (i : ℕ) → 1 ≤ i → i < 1 + (positions_of text + moves_of text) →
-      line_finding text (positions_of text) i ≡ Fault r → ((k : ℕ) → 1 ≤ k → k < i → line_finding text (positions_of text) k ≡ Clean) → First text r
+  fault-right : (BadLength text → ⊥) → header_of text ≡ Ok (counts_of text) → (r : Misdrawn) (i : ℕ) → 1 ≤ i → i < 1 + (positions_of text + moves_of text) →
+      line_finding text (positions_of text) i ≡ Err r → ((k : ℕ) → 1 ≤ k → k < i → line_finding text (positions_of text) k ≡ Ok tt) → First text r
   fault-right fine header r i low high fault clean =
-      let exact = subst (λ (d : Finding). LineExact text i d) fault (line-exact text i low (omega arith)) in
+      let exact = subst (λ (d : Result ⊤ Misdrawn). LineExact text i d) fault (line-exact text i low (omega arith)) in
       let y = exact.fault r refl in
       let before = free-lines header (i - 1) (omega arith) (λ k a b. clean k a (omega arith)) in
       record { applies = y.2; none_before = line_first i r fine y.0 y.1 (λ j l. before j (omega arith)) exact.free }
 
   -- the lines after a header with these counts, and then the positions
-  lines-right : (BadLength text → ⊥) → header_of text ≡ Accepted (counts_of text) → (d e : Finding) →
+  lines-right : (BadLength text → ⊥) → header_of text ≡ Ok (counts_of text) → (d e : Result ⊤ Misdrawn) →
       first_fault (line_finding text (positions_of text)) (positions_of text + moves_of text) 1 ≡ d → first_fault (missing_at text (positions_of text) (moves_of text)) (positions_of text) 0 ≡ e →
       Right text (answer (counts_of text) (or_else d e))
   unfolding answer or_else
-  lines-right fine header (Fault r) e p q =
-      let w = first-answered _ (line_finding text (positions_of text)) Clean (Fault r) (λ z. faulty r (sym z)) (positions_of text + moves_of text) 1 p in
+  lines-right fine header (Err r) e p q =
+      let w = first-answered _ (line_finding text (positions_of text)) (Ok tt) (Err r) (λ z. faulty r (sym z)) (positions_of text + moves_of text) 1 p in
       fault-right fine header r w.0 w.1.low w.1.high w.2 (λ k l h. is-clean _ (w.1.passed k l h))
-  lines-right fine header Clean (Fault r) p q =
-      let w = first-answered _ (missing_at text (positions_of text) (moves_of text)) Clean (Fault r) (λ z. faulty r (sym z)) (positions_of text) 0 q in
+  lines-right fine header (Ok _) (Err r) p q =
+      let w = first-answered _ (missing_at text (positions_of text) (moves_of text)) (Ok tt) (Err r) (λ z. faulty r (sym z)) (positions_of text) 0 q in
       let x = missing-fault w.0 r w.2 in
       let inside : w.0 < positions_of text = omega (arith, w.1.high) in
       let without = meant-without w.0 inside (owned-position p w.0 inside x.1) x.2 in
       subst (First text) x.0 (position_first fine (all-free header p) w.0 without (λ k l. is-clean _ (w.1.passed k (omega arith) l)))
-  lines-right fine header Clean Clean p q =
+  lines-right fine header (Ok _) (Ok _) p q =
       (λ s a. let w = last-stage fine (all-free header p) s a in some-meant q (misdrawn_line s) w.1, refl)
 
   -- the text's length, its header, and then its lines
-  header-right : (BadLength text → ⊥) → (e : Examination) → header_of text ≡ e → Right text (lines_after text e)
+  header-right : (BadLength text → ⊥) → (e : Result Chart Misdrawn) → header_of text ≡ e → Right text (lines_after text e)
   unfolding lines_after after_header
-  header-right fine (Refused r) p =
-      let exact = subst (λ (e : Examination). LineExact text 0 (finding_of e)) p (header-exact text) in
+  header-right fine (Err r) p =
+      let exact = subst (λ (e : Result Chart Misdrawn). LineExact text 0 (finding_of e)) p (header-exact text) in
       let y = exact.fault r refl in
       record { applies = y.2; none_before = line_first 0 r fine y.0 y.1 (λ j l. absurd (omega arith)) exact.free }
-  header-right fine (Accepted chart) p =
+  header-right fine (Ok chart) p =
       let same = (header-accepts text chart p).1 in
       subst (λ (k : Chart). Right text (after_header text k)) (sym same)
-      (lines-right fine (p ∙ ap Accepted same) _ _ refl refl)
+      (lines-right fine (p ∙ ap Ok same) _ _ refl refl)
 
   length-first : BadLength text → First text Length
   length-first bad = record {
@@ -285,21 +281,21 @@ ordered-refusals r s =
     (λ l. inr (inr (inl l))))
     (three (stage r) (stage s))
 
-first-only : (text : List ℕ) (r : Misdrawn) (e : Examination) → First text r → Right text e → e ≡ Refused r
-first-only text r (Accepted chart) f w = absurd (w.0 r f.applies)
-first-only text r (Refused s) f w =
+first-only : (text : List ℕ) (r : Misdrawn) (e : Result Chart Misdrawn) → First text r → Right text e → e ≡ Err r
+first-only text r (Ok chart) f w = absurd (w.0 r f.applies)
+first-only text r (Err s) f w =
     ⊎_elim (λ b. absurd (w.none_before r b f.applies))
-    (⊎_elim (λ e. ap Refused (sym e)) (λ b. absurd (f.none_before s b w.applies))) (ordered-refusals r s)
+    (⊎_elim (λ e. ap Err (sym e)) (λ b. absurd (f.none_before s b w.applies))) (ordered-refusals r s)
 
-none_only : (text : List ℕ) (chart : Chart) (e : Examination) → ((s : Misdrawn) → Applies text s → ⊥) → chart ≡ counts_of text → Right text e → e ≡ Accepted chart
-none_only text chart (Accepted got) none c w = ap Accepted (w.1 ∙ sym c)
-none_only text chart (Refused s) none c w = absurd (none s w.applies)
+none_only : (text : List ℕ) (chart : Chart) (e : Result Chart Misdrawn) → ((s : Misdrawn) → Applies text s → ⊥) → chart ≡ counts_of text → Right text e → e ≡ Ok chart
+none_only text chart (Ok got) none c w = ap Ok (w.1 ∙ sym c)
+none_only text chart (Err s) none c w = absurd (none s w.applies)
 
 -- a text is refused with r exactly when r applies and nothing before it in the order does
-pub refused-exactly : (text : List ℕ) (r : Misdrawn) → examined text ≡ Refused r ↔ First text r
-refused-exactly text r = ((λ e. subst (λ (x : Examination). Right text x) e (right text)), λ f. first-only text r (examined text) f (right text))
+pub refused-exactly : (text : List ℕ) (r : Misdrawn) → examined text ≡ Err r ↔ First text r
+refused-exactly text r = ((λ e. subst (λ (x : Result Chart Misdrawn). Right text x) e (right text)), λ f. first-only text r (examined text) f (right text))
 
 -- a text is accepted exactly when no refusal applies, and the answer is its header's counts
 pub accepted-exactly : (text : List ℕ) (chart : Chart) →
-    examined text ≡ Accepted chart ↔ ((s : Misdrawn) → Applies text s → ⊥) × (chart ≡ record { positions = positions_of text; moves = moves_of text })
-accepted-exactly text chart = ((λ e. subst (λ (x : Examination). Right text x) e (right text)), λ w. none_only text chart (examined text) w.0 w.1 (right text))
+    examined text ≡ Ok chart ↔ ((s : Misdrawn) → Applies text s → ⊥) × (chart ≡ record { positions = positions_of text; moves = moves_of text })
+accepted-exactly text chart = ((λ e. subst (λ (x : Result Chart Misdrawn). Right text x) e (right text)), λ w. none_only text chart (examined text) w.0 w.1 (right text))

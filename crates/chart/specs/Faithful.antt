@@ -5,7 +5,7 @@
 use Prim.Native.Nat.{ℕ, zero, suc, ◌+◌, ◌-◌, ◌*◌, ◌≤◌, ◌<◌}
 use native.Mathlib.Omega.{arith}
 use Rattle.std.proofs.Common.{add_comm, ap₂, ◌∙◌, subst₂, drop_of_length-le}
-use Rattle.std.specs.Prelude.{◌≡◌, ◌⊎◌, Bool, T}
+use Rattle.std.specs.Prelude.{◌≡◌, ◌⊎◌, Bool, T, Ok}
 use Rattle.std.proofs.Math.Path.{refl, sym, ap, subst}
 use Rattle.std.proofs.Math.Logic.{inl, inr, ⊎_elim}
 use Rattle.std.proofs.Math.Bool.{true, false}
@@ -34,7 +34,6 @@ use Rattle.chart.specs.Exact.{accepted-exactly}
 use Rattle.refusal.specs.declared.Misdrawn.{Misdrawn}
 use Rattle.refusal.specs.declared.Misdrawn.TheVariants.{Length, Form, Limits, Count, Sequence, Endpoint, Disturbed, Resting, Order, NoMeant}
 use Rattle.rows.specs.declared.Chart.{Chart}
-use Rattle.chart.specs.declared.Examination.TheVariants.{Accepted}
 
 -- letters stand for owners and costs
 letter-owner : (letter : ℕ) → PositionLetter letter → owner_letter (owner_of letter) ≡ letter
@@ -99,7 +98,7 @@ module _ (text : List ℕ) (g : GoodChart text) (w : WithoutBlanks text) where
       ∙ ap (λ (l : List ℕ). positions ++ l) (joined-stands _ 12 (12 + n * 12) text m move-bytes ∙ ap (λ (l : List ℕ). moves ++ l) (drop_of_length-le text past) ∙ append-nil moves))))
 
 -- an accepted text, its blank marks filled, is the text of its arena
-pub text-faithful : (text : List ℕ) (chart : Chart) → examined text ≡ Accepted chart → chart_text (arena_of text) ≡ filling text
+pub text-faithful : (text : List ℕ) (chart : Chart) → examined text ≡ Ok chart → chart_text (arena_of text) ≡ filling text
 text-faithful text chart e =
     let d = filling-differs text in
     let good = (accepted-good (filling text) chart (sym (examined-same text (filling text) d) ∙ e)).0 in
@@ -340,7 +339,7 @@ module _ (a : Arena) (c : Chartable a) (text : List ℕ) (s : SetOut a text) whe
 
 -- every arena that has a chart: its text is accepted, with its counts, and means it
 pub arena-faithful : (a : Arena) → Chartable a →
-    (examined (chart_text a) ≡ Accepted (record { positions = size a; moves = length a.moves })) × (arena_of (chart_text a) ≡ a)
+    (examined (chart_text a) ≡ Ok (record { positions = size a; moves = length a.moves })) × (arena_of (chart_text a) ≡ a)
 arena-faithful a c =
     let s = set_out a c in
     let counts : ◌≡◌ {A = Chart} (record { positions = size a; moves = length a.moves }) (record { positions = positions_of (chart_text a); moves = moves_of (chart_text a) }) =

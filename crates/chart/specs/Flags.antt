@@ -1,12 +1,11 @@
 -- Laws of the row of flags by which the positions without a meant move are found.
-use Rattle.std.specs.Prelude.{ℕ, zero, suc, ◌+◌, ◌-◌, ◌≤◌, ◌<◌, ◌≡◌, refl, Bool, true, false, cond, List, length, get_or, set, replicate, ltb, eqb}
+use Rattle.std.specs.Prelude.{ℕ, zero, suc, ◌+◌, ◌-◌, ◌≤◌, ◌<◌, ◌≡◌, refl, Bool, true, false, cond, List, length, get_or, set, replicate, ltb, eqb, Ok, Err}
 use Rattle.std.proofs.Common.{arith, add-one, sym, ap, ◌∙◌, subst, get_or-set_same, get_or-set_other, ltb-true, ltb-false, eqb-true}
 use Rattle.std.proofs.lemmas.Bool.{eqb-false}
 use Rattle.chart.specs.Text.{letter_at}
 use Rattle.chart.specs.Examined.{meant_line, is_clean, first_fault, meant_in, missing_at, unflagged_at}
 use Rattle.search.proofs.FirstLaws.{first-same}
 use Rattle.refusal.specs.declared.Misdrawn.TheVariants.{NoMeant}
-use Rattle.chart.specs.declared.Finding.TheVariants.{Clean, Fault}
 
 -- a flag that is set at `from`
 pub flag-set : (flags : List ℕ) (from v : ℕ) → from < length flags → get_or (set flags from 1) v 0 ≡ cond (eqb from v) 1 (get_or flags v 0)
@@ -49,7 +48,7 @@ pub flags-tell : (text flags : List ℕ) (n m v : ℕ) → get_or flags v 0 ≡ 
 unfolding unflagged_at missing_at
 flags-tell text flags n m v e = rw e (both (meant_in text n m v) (eqb (letter_at text (v + 1)) 82))
   where
-    both : (b r : Bool) → cond (eqb (cond b 1 0) 0) (cond r Clean (Fault (NoMeant (v + 1)))) Clean ≡ cond r Clean (cond b Clean (Fault (NoMeant (v + 1))))
+    both : (b r : Bool) → cond (eqb (cond b 1 0) 0) (cond r (Ok (tt {0})) (Err (NoMeant (v + 1)))) (Ok tt) ≡ cond r (Ok tt) (cond b (Ok tt) (Err (NoMeant (v + 1))))
     both true true = refl
     both true false = refl
     both false true = refl
@@ -62,4 +61,4 @@ zeros (suc count) (suc v) = zeros count v
 
 -- so the first of them is the same
 pub flags-first : (text flags : List ℕ) (n m : ℕ) → ((v : ℕ) → v < n → get_or flags v 0 ≡ cond (meant_in text n m v) 1 0) → first_fault (unflagged_at text flags) n 0 ≡ first_fault (missing_at text n m) n 0
-flags-first text flags n m h = first-same _ _ (unflagged_at text flags) (missing_at text n m) Clean n 0 (λ j l k. let e = flags-tell text flags n m j (h j (omega arith)) in (ap is_clean e, e))
+flags-first text flags n m h = first-same _ _ (unflagged_at text flags) (missing_at text n m) (Ok tt) n 0 (λ j l k. let e = flags-tell text flags n m j (h j (omega arith)) in (ap is_clean e, e))

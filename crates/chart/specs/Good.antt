@@ -1,6 +1,6 @@
 -- What an accepted text is, line by line: the facts that its examination found, from which its arena is well-formed and its
 -- bytes are those of the arena's text.
-use Rattle.std.specs.Prelude.{ℕ, ◌+◌, ◌-◌, ◌%◌, ◌≤◌, ◌<◌, ◌≡◌, ◌↔◌, Bool, List, length, ltb, eqb}
+use Rattle.std.specs.Prelude.{ℕ, ◌+◌, ◌-◌, ◌%◌, ◌≤◌, ◌<◌, ◌≡◌, ◌↔◌, Bool, List, length, ltb, eqb, ⊤, Result, Ok, Err}
 use Rattle.std.proofs.Common.{arith, sym, ap, ◌∙◌, subst, inl, inr, ⊎_elim}
 use Rattle.std.proofs.Math.Path.{refl}
 use Rattle.std.proofs.Math.Bool.{true, false}
@@ -15,10 +15,6 @@ use Rattle.chart.specs.Examined.{header_letter, position_letter, move_letter, nu
 use Rattle.chart.specs.Header.{WithinLimits, header-accepts}
 use Rattle.rows.specs.declared.Chart.{Chart}
 use Rattle.refusal.specs.declared.Misdrawn.{Misdrawn}
-use Rattle.chart.specs.declared.Finding.{Finding}
-use Rattle.chart.specs.declared.Finding.TheVariants.{Clean, Fault}
-use Rattle.chart.specs.declared.Examination.{Examination}
-use Rattle.chart.specs.declared.Examination.TheVariants.{Accepted, Refused}
 
 -- a line whose letter is allowed, two numbers and a line feed
 pub record Formed (Letter : Type 0) (first second : Field) (end : ℕ) : Type 0 where
@@ -96,17 +92,17 @@ formed-true Letter true f g e tells h =
     let r = numbered-true f g e h in
     record { allowed = tells.0 refl; first-number = is-number f r.0; second-number = is-number g r.1; ends = r.2 }
 
-pub faulty : {A : Type 0} (r : Misdrawn) → Fault r ≡ Clean → A
+pub faulty : {A : Type 0} (r : Misdrawn) → Err r ≡ Ok (tt {0}) → A
 faulty r e = let z : ◌≡◌ {A = ℕ} 0 1 = cc in absurd (omega arith)
 
-pub is-clean : (d : Finding) → is_clean d ≡ true → d ≡ Clean
-is-clean Clean e = refl
-is-clean (Fault r) e = untrue e
+pub is-clean : (d : Result ⊤ Misdrawn) → is_clean d ≡ true → d ≡ Ok tt
+is-clean (Ok _) e = refl
+is-clean (Err r) e = untrue e
 
 -- with no first fault every finding is clean
-pub all-clean : (f : ℕ → Finding) (count i : ℕ) → first_fault f count i ≡ Clean → (j : ℕ) → i ≤ j → j < i + count → f j ≡ Clean
+pub all-clean : (f : ℕ → Result ⊤ Misdrawn) (count i : ℕ) → first_fault f count i ≡ Ok tt → (j : ℕ) → i ≤ j → j < i + count → f j ≡ Ok tt
 all-clean f count i e j l h =
-    is-clean (f j) (first_ended (λ k. is_clean (f k)) f Clean (λ k no same. untrue (sym no ∙ ap is_clean same)) count i e j l h)
+    is-clean (f j) (first_ended (λ k. is_clean (f k)) f (Ok tt) (λ k no same. untrue (sym no ∙ ap is_clean same)) count i e j l h)
 
 pub position-form : (text : List ℕ) (i : ℕ) → position_formed text i ≡ true → Formed (PositionLetter (letter_at text i)) (first_at text i) (mark_at text i) (end_at text i)
 unfolding position_formed
@@ -120,7 +116,7 @@ pub header-form : (text : List ℕ) → header_formed text ≡ true → Formed (
 unfolding header_formed
 header-form text = formed-true _ _ (first_at text 0) (second_at text 0) (end_at text 0) (header-letter (letter_at text 0))
 
-pub position-clean : (text : List ℕ) (i : ℕ) → position_finding text i ≡ Clean → GoodPosition text i
+pub position-clean : (text : List ℕ) (i : ℕ) → position_finding text i ≡ Ok tt → GoodPosition text i
 unfolding position_finding judged_position
 position-clean text i h = go (position_formed text i) (eqb (from_at text i) (i - 1)) (ltb 1 (field_number (mark_at text i))) refl refl refl
   where
@@ -134,7 +130,7 @@ position-clean text i h = go (position_formed text i) (eqb (from_at text i) (i -
       small = ltb-false 1 (field_number (mark_at text i)) w;
     }
 
-ordered-clean : (n i : ℕ) (rising : Bool) → ordered n i rising ≡ Clean → n < i - 1 → rising ≡ true
+ordered-clean : (n i : ℕ) (rising : Bool) → ordered n i rising ≡ Ok tt → n < i - 1 → rising ≡ true
 unfolding ordered
 ordered-clean n i true h l = refl
 ordered-clean n i false h l = faulty _ (simp (lt-leb (i - 1) n l) at h)
@@ -145,7 +141,7 @@ record CleanOwner (n i letter owner : ℕ) (rising : Bool) : Type 0 where
   unmeant : letter ≡ 77 → owner ≡ 82 → ⊥
   above : n < i - 1 → rising ≡ true
 
-owner-clean : (n i letter owner : ℕ) (rising : Bool) → judged_owner n i letter owner rising ≡ Clean → CleanOwner n i letter owner rising
+owner-clean : (n i letter owner : ℕ) (rising : Bool) → judged_owner n i letter owner rising ≡ Ok tt → CleanOwner n i letter owner rising
 unfolding judged_owner
 owner-clean n i letter owner rising h = go (eqb letter 68) (eqb owner 76) (eqb letter 77) (eqb owner 82) refl refl refl refl
   where
@@ -175,7 +171,7 @@ module _ (ok : Bool) (n i letter from to owner : ℕ) (rising : Bool) where
     to-position : to < n
     owned : CleanOwner n i letter owner rising
 
-  judged-clean : judged_move ok n i letter from to owner rising ≡ Clean → CleanMove
+  judged-clean : judged_move ok n i letter from to owner rising ≡ Ok tt → CleanMove
   unfolding judged_move
   judged-clean h = go ok (leb n from) (leb n to) refl refl refl
     where
@@ -190,7 +186,7 @@ module _ (ok : Bool) (n i letter from to owner : ℕ) (rising : Bool) where
         owned = owner-clean n i letter owner rising (simp (a, b, c) at h);
       }
 
-pub move-clean : (text : List ℕ) (n i : ℕ) → move_finding text n i ≡ Clean → GoodMove text n i
+pub move-clean : (text : List ℕ) (n i : ℕ) → move_finding text n i ≡ Ok tt → GoodMove text n i
 unfolding move_finding
 move-clean text n i h =
     let w = judged-clean (move_formed text i) n i (letter_at text i) (from_at text i) (to_at text i) (letter_at text (from_at text i + 1)) (rises text i) h in
@@ -212,13 +208,13 @@ pub line-move : (text : List ℕ) (n i : ℕ) → n < i → line_finding text n 
 unfolding line_finding
 line-move text n i h = simp (lt-leb i n h)
 
-answer-accepts : (chart got : Chart) (d e : Finding) → answer chart (or_else d e) ≡ Accepted got → (d ≡ Clean) × (e ≡ Clean) × (got ≡ chart)
+answer-accepts : (chart got : Chart) (d e : Result ⊤ Misdrawn) → answer chart (or_else d e) ≡ Ok got → (d ≡ Ok tt) × (e ≡ Ok tt) × (got ≡ chart)
 unfolding answer or_else
-answer-accepts chart got Clean Clean h = (refl, refl, cc)
-answer-accepts chart got Clean (Fault r) h = let z : ◌≡◌ {A = ℕ} 0 1 = cc in absurd (omega arith)
-answer-accepts chart got (Fault r) e h = let z : ◌≡◌ {A = ℕ} 0 1 = cc in absurd (omega arith)
+answer-accepts chart got (Ok _) (Ok _) h = (refl, refl, cc)
+answer-accepts chart got (Ok _) (Err r) h = let z : ◌≡◌ {A = ℕ} 0 1 = cc in absurd (omega arith)
+answer-accepts chart got (Err r) e h = let z : ◌≡◌ {A = ℕ} 0 1 = cc in absurd (omega arith)
 
-pub missing-clean : (text : List ℕ) (n m v : ℕ) → missing_at text n m v ≡ Clean → (letter_at text (v + 1) ≡ 82 → ⊥) → meant_in text n m v ≡ true
+pub missing-clean : (text : List ℕ) (n m v : ℕ) → missing_at text n m v ≡ Ok tt → (letter_at text (v + 1) ≡ 82 → ⊥) → meant_in text n m v ≡ true
 unfolding missing_at
 missing-clean text n m v h other = go (meant_in text n m v) refl
   where
@@ -227,17 +223,17 @@ missing-clean text n m v h other = go (meant_in text n m v) refl
     go false e = faulty _ (simp (ne_eqb (letter_at text (v + 1)) 82 other, e) at h)
 
 -- the lines after an accepted header
-lines-accept : (text : List ℕ) (e : Examination) (chart : Chart) → header_of text ≡ e → lines_after text e ≡ Accepted chart →
+lines-accept : (text : List ℕ) (e : Result Chart Misdrawn) (chart : Chart) → header_of text ≡ e → lines_after text e ≡ Ok chart →
     GoodChart text × (chart ≡ record { positions = positions_of text; moves = moves_of text })
 unfolding lines_after after_header
-lines-accept text (Refused r) chart p h = let z : ◌≡◌ {A = ℕ} 0 1 = cc in absurd (omega arith)
-lines-accept text (Accepted got) chart p h =
+lines-accept text (Err r) chart p h = let z : ◌≡◌ {A = ℕ} 0 1 = cc in absurd (omega arith)
+lines-accept text (Ok got) chart p h =
     let w = header-accepts text got p in
     let n = positions_of text in
     let m = moves_of text in
     let counts : Chart = record { positions = n; moves = m } in
     let r = answer-accepts counts chart (first_fault (line_finding text n) (n + m) 1) (first_fault (missing_at text n m) n 0)
-    (subst (λ (k : Chart). lines_after text (Accepted k) ≡ Accepted chart) w.1 h) in
+    (subst (λ (k : Chart). lines_after text (Ok k) ≡ Ok chart) w.1 h) in
     let clean = all-clean (line_finding text n) (n + m) 1 r.0 in (
       record {
         form = header-form text w.0.form;
@@ -249,7 +245,7 @@ lines-accept text (Accepted got) chart p h =
       r.2,
     )
 
-pub accepted-good : (text : List ℕ) (chart : Chart) → examined text ≡ Accepted chart → GoodChart text × (chart ≡ record { positions = positions_of text; moves = moves_of text })
+pub accepted-good : (text : List ℕ) (chart : Chart) → examined text ≡ Ok chart → GoodChart text × (chart ≡ record { positions = positions_of text; moves = moves_of text })
 unfolding examined
 accepted-good text chart h = go (eqb (length text) 0) (ltb 55308 (length text)) (eqb (length text % 12) 0) refl refl refl
   where

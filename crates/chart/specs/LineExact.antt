@@ -1,6 +1,6 @@
 -- The finding of one line is exact: a fault is the first refusal in the order that applies to the line, and a clean line has none. Each case of
 -- the computed finding says which conditions hold and which don't; no other refusal can stand on a line of that kind.
-use Rattle.std.specs.Prelude.{ℕ, ◌+◌, ◌-◌, ◌*◌, ◌≤◌, ◌<◌, ◌≡◌, refl, ◌⊎◌, ◌↔◌, Bool, true, false, List, length, ltb, leb, eqb}
+use Rattle.std.specs.Prelude.{ℕ, ◌+◌, ◌-◌, ◌*◌, ◌≤◌, ◌<◌, ◌≡◌, refl, ◌⊎◌, ◌↔◌, Bool, true, false, List, length, ltb, leb, eqb, ⊤, Result, Ok, Err}
 use Rattle.std.proofs.Common.{arith, sym, ◌∙◌, subst, inl, inr, ⊎_elim, ltb-true, ltb-false, leb-true, leb-false, eqb-true, lt-ltb, le-ltb}
 use Rattle.std.proofs.lemmas.Bool.{eqb-false}
 use Rattle.game.specs.Arena.{Move}
@@ -14,28 +14,25 @@ use Rattle.chart.specs.Examined.{numbered, formed, header_formed, position_forme
 use Rattle.chart.specs.Good.{Formed, header-letter, position-letter, move-letter, position-form, move-form, header-form, line-position, line-move}
 use Rattle.chart.specs.Accepted.{line-rises}
 use Rattle.refusal.specs.declared.Misdrawn.{Misdrawn}
+use Rattle.rows.specs.declared.Chart.{Chart}
 use Rattle.refusal.specs.declared.Misdrawn.TheVariants.{Length, Form, Limits, Count, Sequence, Endpoint, Disturbed, Resting, Order, NoMeant}
-use Rattle.chart.specs.declared.Finding.{Finding}
-use Rattle.chart.specs.declared.Finding.TheVariants.{Clean, Fault}
-use Rattle.chart.specs.declared.Examination.{Examination}
-use Rattle.chart.specs.declared.Examination.TheVariants.{Accepted, Refused}
 
 -- what must not apply to a line with this finding: beside a fault what is before it, to a clean line anything
-abbrev pub Earlier : Finding → Misdrawn → Type 0
-Earlier Clean s = Unit {0}
-Earlier (Fault r) s = rank s < rank r
+abbrev pub Earlier : Result ⊤ Misdrawn → Misdrawn → Type 0
+Earlier (Ok _) s = Unit {0}
+Earlier (Err r) s = rank s < rank r
 
-abbrev pub Free : List ℕ → ℕ → Finding → Type 0
+abbrev pub Free : List ℕ → ℕ → Result ⊤ Misdrawn → Type 0
 Free text i d = (s : Misdrawn) → stage s ≡ 1 → misdrawn_line s ≡ i → Earlier d s → Applies text s → ⊥
 
-pub record LineExact (text : List ℕ) (i : ℕ) (d : Finding) : Type 0 where
+pub record LineExact (text : List ℕ) (i : ℕ) (d : Result ⊤ Misdrawn) : Type 0 where
   pub free : Free text i d
-  pub fault : (r : Misdrawn) → d ≡ Fault r → (stage r ≡ 1) × (misdrawn_line r ≡ i) × Applies text r
+  pub fault : (r : Misdrawn) → d ≡ Err r → (stage r ≡ 1) × (misdrawn_line r ≡ i) × Applies text r
 
-clean-exact : (text : List ℕ) (i : ℕ) → Free text i Clean → LineExact text i Clean
+clean-exact : (text : List ℕ) (i : ℕ) → Free text i (Ok tt) → LineExact text i (Ok tt)
 clean-exact text i free = record { free = free; fault = λ r e. let z : ◌≡◌ {A = ℕ} 0 1 = cc in absurd (omega arith) }
 
-fault-exact : (text : List ℕ) (i : ℕ) (r : Misdrawn) → stage r ≡ 1 → misdrawn_line r ≡ i → Applies text r → Free text i (Fault r) → LineExact text i (Fault r)
+fault-exact : (text : List ℕ) (i : ℕ) (r : Misdrawn) → stage r ≡ 1 → misdrawn_line r ≡ i → Applies text r → Free text i (Err r) → LineExact text i (Err r)
 fault-exact text i r p q a free = record {
   free = free;
   fault = λ s e. let same : r ≡ s = cc in subst (λ (x : Misdrawn). (stage x ≡ 1) × (misdrawn_line x ≡ i) × Applies text x) same (p, q, a);
@@ -98,7 +95,7 @@ form-bad Letter text i second same inside only w =
     (inside, ⊎_elim (λ no. inl (λ allowed. no (only allowed))) (λ x. inr (⊎_elim inl (λ y. inr (⊎_elim (λ e. inl (same.1 e)) inr y)) x)) w)
 
 -- on line i nothing before this finding applies, if none of those that can stand there does
-module _ (text : List ℕ) (i : ℕ) (d : Finding) (form : Earlier d (Form i) → BadForm text i → ⊥)
+module _ (text : List ℕ) (i : ℕ) (d : Result ⊤ Misdrawn) (form : Earlier d (Form i) → BadForm text i → ⊥)
     (first : i ≡ 0 → (Earlier d Limits → OutsideLimits text → ⊥) × (Earlier d Count → WrongCount text → ⊥)) (sequence : Earlier d (Sequence i) → OutOfSequence text i → ⊥)
     (endpoint : Earlier d (Endpoint i) → BadEndpoint text i → ⊥) (disturbed : Earlier d (Disturbed i) → BadDisturbance text i → ⊥)
     (resting : Earlier d (Resting i) → MeantAtRest text i → ⊥) (order : Earlier d (Order i) → OutOfOrder text i → ⊥) where
@@ -115,19 +112,19 @@ module _ (text : List ℕ) (i : ℕ) (d : Finding) (form : Earlier d (Form i) �
   line-free (NoMeant line) a e l w = omega arith
 
 -- so on a position line, on a move line and on the header
-position-free : (text : List ℕ) (i : ℕ) (d : Finding) → PositionLine text i → (Earlier d (Form i) → BadForm text i → ⊥) → (Earlier d (Sequence i) → OutOfSequence text i → ⊥) → Free text i d
+position-free : (text : List ℕ) (i : ℕ) (d : Result ⊤ Misdrawn) → PositionLine text i → (Earlier d (Form i) → BadForm text i → ⊥) → (Earlier d (Sequence i) → OutOfSequence text i → ⊥) → Free text i d
 unfolding BadEndpoint BadDisturbance MeantAtRest OutOfOrder
 position-free text i d p form sequence =
     line-free text i d form (λ z. absurd (omega (arith, p.0))) sequence (λ l w. omega (arith, p.1, w.0.0)) (λ l w. omega (arith, p.1, w.0.0)) (λ l w. omega (arith, p.1, w.0.0))
     (λ l w. omega (arith, p.1, w.0.0))
 
-move-free : (text : List ℕ) (i : ℕ) (d : Finding) → MoveLine text i → (Earlier d (Form i) → BadForm text i → ⊥) → (Earlier d (Endpoint i) → BadEndpoint text i → ⊥) →
+move-free : (text : List ℕ) (i : ℕ) (d : Result ⊤ Misdrawn) → MoveLine text i → (Earlier d (Form i) → BadForm text i → ⊥) → (Earlier d (Endpoint i) → BadEndpoint text i → ⊥) →
     (Earlier d (Disturbed i) → BadDisturbance text i → ⊥) → (Earlier d (Resting i) → MeantAtRest text i → ⊥) → (Earlier d (Order i) → OutOfOrder text i → ⊥) → Free text i d
 unfolding OutOfSequence
 move-free text i d p form endpoint disturbed resting order =
     line-free text i d form (λ z. absurd (omega (arith, p.0))) (λ l w. omega (arith, p.0, w.0.1)) endpoint disturbed resting order
 
-header-free : (text : List ℕ) (d : Finding) → (Earlier d (Form 0) → BadForm text 0 → ⊥) → (Earlier d Limits → OutsideLimits text → ⊥) → (Earlier d Count → WrongCount text → ⊥) → Free text 0 d
+header-free : (text : List ℕ) (d : Result ⊤ Misdrawn) → (Earlier d (Form 0) → BadForm text 0 → ⊥) → (Earlier d Limits → OutsideLimits text → ⊥) → (Earlier d Count → WrongCount text → ⊥) → Free text 0 d
 unfolding OutOfSequence BadEndpoint BadDisturbance MeantAtRest OutOfOrder
 header-free text d form limits count =
     line-free text 0 d form (λ z. (limits, count)) (λ l w. omega (arith, w.0.0)) (λ l w. omega (arith, w.0.0)) (λ l w. omega (arith, w.0.0)) (λ l w. omega (arith, w.0.0))
@@ -166,19 +163,19 @@ unfolding position_finding judged_position OutOfSequence
 position-exact text i p = go (position_formed text i) (eqb (from_at text i) (i - 1)) (ltb 1 (field_number (mark_at text i))) refl refl refl
   where
     go : (b c d : Bool) → position_formed text i ≡ b → eqb (from_at text i) (i - 1) ≡ c → ltb 1 (field_number (mark_at text i)) ≡ d → LineExact text i (position_finding text i)
-    go false c d u v w = simp u (fault-exact text i (Form i) refl refl (position-bad text i p u) (position-free text i (Fault (Form i)) p (λ l. omega arith) (λ l. omega arith)))
+    go false c d u v w = simp u (fault-exact text i (Form i) refl refl (position-bad text i p u) (position-free text i (Err (Form i)) p (λ l. omega arith) (λ l. omega arith)))
     go true false d u v w =
         simp (u, v)
         (fault-exact text i (Sequence i) refl refl (p, inl (eqb-false (from_at text i) (i - 1) v))
-        (position-free text i (Fault (Sequence i)) p (λ l. position-good text i p u) (λ l. omega arith)))
+        (position-free text i (Err (Sequence i)) p (λ l. position-good text i p u) (λ l. omega arith)))
     go true true true u v w =
         simp (u, v, w)
         (fault-exact text i (Sequence i) refl refl (p, inr (ltb-true 1 (field_number (mark_at text i)) w))
-        (position-free text i (Fault (Sequence i)) p (λ l. position-good text i p u) (λ l. omega arith)))
+        (position-free text i (Err (Sequence i)) p (λ l. position-good text i p u) (λ l. omega arith)))
     go true true false u v w =
         simp (u, v, w)
         (clean-exact text i
-        (position-free text i Clean p (λ l. position-good text i p u)
+        (position-free text i (Ok tt) p (λ l. position-good text i p u)
         (λ l bad. ⊎_elim (λ no. no (eqb-true (from_at text i) (i - 1) v)) (λ high. omega (arith, ltb-false 1 (field_number (mark_at text i)) w)) bad.1)))
 
 -- the order of moves is the test of two moves
@@ -222,17 +219,17 @@ order-exact : (text : List ℕ) (i : ℕ) → MoveLine text i → (BadForm text 
 unfolding ordered OutOfOrder
 order-exact text i p form endpoint disturbed resting = go (leb (i - 1) (positions_of text)) (rises text i) refl refl
   where
-    free : (d : Finding) → (Earlier d (Order i) → OutOfOrder text i → ⊥) → Free text i d
+    free : (d : Result ⊤ Misdrawn) → (Earlier d (Order i) → OutOfOrder text i → ⊥) → Free text i d
     free d order = move-free text i d p (λ l. form) (λ l. endpoint) (λ l. disturbed) (λ l. resting) order
 
     go : (b c : Bool) → leb (i - 1) (positions_of text) ≡ b → rises text i ≡ c → LineExact text i (ordered (positions_of text) i (rises text i))
-    go true c u v = simp u (clean-exact text i (free Clean (λ l w. omega (arith, leb-true (i - 1) (positions_of text) u, w.1.0.0))))
-    go false true u v = simp (u, v) (clean-exact text i (free Clean (λ l w. w.1.1 (line-rises text i v))))
+    go true c u v = simp u (clean-exact text i (free (Ok tt) (λ l w. omega (arith, leb-true (i - 1) (positions_of text) u, w.1.0.0))))
+    go false true u v = simp (u, v) (clean-exact text i (free (Ok tt) (λ l w. w.1.1 (line-rises text i v))))
     go false false u v =
         simp (u, v)
         (fault-exact text i (Order i) refl refl
         (p, ((leb-false (i - 1) (positions_of text) u, omega (arith, p.1)), λ w. contrary (sym v ∙ rises-line text i w)))
-        (free (Fault (Order i)) (λ l. omega arith)))
+        (free (Err (Order i)) (λ l. omega arith)))
 
 -- 7 is of the letter `D`, 17 of `M`: neither stands before the other
 owner-exact : (text : List ℕ) (i : ℕ) → MoveLine text i → (BadForm text i → ⊥) → (BadEndpoint text i → ⊥) →
@@ -246,21 +243,21 @@ owner-exact text i p form endpoint = go (eqb letter 68) (eqb owner 76) (eqb lett
     owner : ℕ
     owner = letter_at text (from_at text i + 1)
 
-    found : Finding
+    found : Result ⊤ Misdrawn
     found = judged_owner (positions_of text) i letter owner (rises text i)
 
     go : (b c d e : Bool) → eqb letter 68 ≡ b → eqb owner 76 ≡ c → eqb letter 77 ≡ d → eqb owner 82 ≡ e → LineExact text i found
     go true true d e u v w x =
         simp (u, v)
         (fault-exact text i (Disturbed i) refl refl (p, (eqb-true letter 68 u, eqb-true owner 76 v))
-        (move-free text i (Fault (Disturbed i)) p (λ l. form) (λ l. endpoint) (λ l. omega arith) (λ l. omega arith) (λ l. omega arith)))
+        (move-free text i (Err (Disturbed i)) p (λ l. form) (λ l. endpoint) (λ l. omega arith) (λ l. omega arith) (λ l. omega arith)))
     go true false d e u v w x =
         simp (u, v)
         (order-exact text i p form endpoint (λ bad. eqb-false owner 76 v bad.1.1) (λ bad. omega (arith, eqb-true letter 68 u, bad.1.0)))
     go false c true true u v w x =
         simp (u, w, x)
         (fault-exact text i (Resting i) refl refl (p, (eqb-true letter 77 w, eqb-true owner 82 x))
-        (move-free text i (Fault (Resting i)) p (λ l. form) (λ l. endpoint) (λ l bad. eqb-false letter 68 u bad.1.0) (λ l. omega arith) (λ l. omega arith)))
+        (move-free text i (Err (Resting i)) p (λ l. form) (λ l. endpoint) (λ l bad. eqb-false letter 68 u bad.1.0) (λ l. omega arith) (λ l. omega arith)))
     go false c true false u v w x =
         simp (u, w, x)
         (order-exact text i p form endpoint (λ bad. eqb-false letter 68 u bad.1.0) (λ bad. eqb-false owner 82 x bad.1.1))
@@ -281,21 +278,21 @@ move-exact text i p = go (move_formed text i) (leb (positions_of text) (from_at 
     go false c d u v w =
         simp u
         (fault-exact text i (Form i) refl refl (move-bad text i p u)
-        (move-free text i (Fault (Form i)) p (λ l. omega arith) (λ l. omega arith) (λ l. omega arith) (λ l. omega arith) (λ l. omega arith)))
+        (move-free text i (Err (Form i)) p (λ l. omega arith) (λ l. omega arith) (λ l. omega arith) (λ l. omega arith) (λ l. omega arith)))
     go true true d u v w =
         simp (u, v)
         (fault-exact text i (Endpoint i) refl refl (p, inl (leb-true (positions_of text) (from_at text i) v))
-        (move-free text i (Fault (Endpoint i)) p (λ l. move-good text i p u) (λ l. omega arith) (λ l. omega arith) (λ l. omega arith) (λ l. omega arith)))
+        (move-free text i (Err (Endpoint i)) p (λ l. move-good text i p u) (λ l. omega arith) (λ l. omega arith) (λ l. omega arith) (λ l. omega arith)))
     go true false true u v w =
         simp (u, v, w)
         (fault-exact text i (Endpoint i) refl refl (p, inr (leb-true (positions_of text) (to_at text i) w))
-        (move-free text i (Fault (Endpoint i)) p (λ l. move-good text i p u) (λ l. omega arith) (λ l. omega arith) (λ l. omega arith) (λ l. omega arith)))
+        (move-free text i (Err (Endpoint i)) p (λ l. move-good text i p u) (λ l. omega arith) (λ l. omega arith) (λ l. omega arith) (λ l. omega arith)))
     go true false false u v w = simp (u, v, w) (owner-exact text i p (move-good text i p u) (inside v w))
 
 -- the header's answer as a finding
-abbrev pub finding_of : Examination → Finding
-finding_of (Accepted chart) = Clean
-finding_of (Refused r) = Fault r
+abbrev pub finding_of : Result Chart Misdrawn → Result ⊤ Misdrawn
+finding_of (Ok chart) = Ok tt
+finding_of (Err r) = Err r
 
 header-bad : (text : List ℕ) → header_formed text ≡ false → BadForm text 0
 unfolding header_formed
@@ -327,13 +324,13 @@ header-exact text =
     m : ℕ
     m = moves_of text
 
-    outside : header_formed text ≡ true → OutsideLimits text → LineExact text 0 (Fault Limits)
-    outside u w = fault-exact text 0 Limits refl refl w (header-free text (Fault Limits) (λ l. header-good text u) (λ l. omega arith) (λ l. omega arith))
+    outside : header_formed text ≡ true → OutsideLimits text → LineExact text 0 (Err Limits)
+    outside u w = fault-exact text 0 Limits refl refl w (header-free text (Err Limits) (λ l. header-good text u) (λ l. omega arith) (λ l. omega arith))
 
     go : (a b c d e f : Bool) → header_formed text ≡ a → ltb n 1 ≡ b → ltb 512 n ≡ c → ltb m 1 ≡ d → ltb 4096 m ≡ e → eqb (length text) ((1 + n + m) * 12) ≡ f →
         LineExact text 0 (finding_of (header_of text))
     go false b c d e f u v w x y z =
-        simp u (fault-exact text 0 (Form 0) refl refl (header-bad text u) (header-free text (Fault (Form 0)) (λ l. omega arith) (λ l. omega arith) (λ l. omega arith)))
+        simp u (fault-exact text 0 (Form 0) refl refl (header-bad text u) (header-free text (Err (Form 0)) (λ l. omega arith) (λ l. omega arith) (λ l. omega arith)))
     go true true c d e f u v w x y z = simp (u, v) (outside u (inl (ltb-true n 1 v)))
     go true false true d e f u v w x y z = simp (u, v, w) (outside u (inr (inl (ltb-true 512 n w))))
     go true false false true e f u v w x y z = simp (u, v, w, x) (outside u (inr (inr (inl (ltb-true m 1 x)))))
@@ -341,11 +338,11 @@ header-exact text =
     go true false false false false false u v w x y z =
         simp (u, v, w, x, y, z)
         (fault-exact text 0 Count refl refl (eqb-false (length text) ((1 + n + m) * 12) z)
-        (header-free text (Fault Count) (λ l. header-good text u) (λ l. inside-limits text v w x y) (λ l. omega arith)))
+        (header-free text (Err Count) (λ l. header-good text u) (λ l. inside-limits text v w x y) (λ l. omega arith)))
     go true false false false false true u v w x y z =
         simp (u, v, w, x, y, z)
         (clean-exact text 0
-        (header-free text Clean (λ l. header-good text u) (λ l. inside-limits text v w x y) (λ l no. no (eqb-true (length text) ((1 + n + m) * 12) z))))
+        (header-free text (Ok tt) (λ l. header-good text u) (λ l. inside-limits text v w x y) (λ l no. no (eqb-true (length text) ((1 + n + m) * 12) z))))
 
 pub line-exact : (text : List ℕ) (i : ℕ) → 1 ≤ i → i ≤ positions_of text + moves_of text → LineExact text i (line_finding text (positions_of text) i)
 line-exact text i l h = go (leb i (positions_of text)) refl

@@ -1,6 +1,6 @@
 -- A text whose lines are good is accepted: the other direction of specs/Good.antt. Each part of a good line is a test that passes, so that
 -- no line has a fault.
-use Rattle.std.specs.Prelude.{ℕ, ◌+◌, ◌-◌, ◌*◌, ◌%◌, ◌≤◌, ◌<◌, ◌≡◌, ◌↔◌, Bool, cond, List, length, leb}
+use Rattle.std.specs.Prelude.{ℕ, ◌+◌, ◌-◌, ◌*◌, ◌%◌, ◌≤◌, ◌<◌, ◌≡◌, ◌↔◌, Bool, cond, List, length, leb, Ok, Err}
 use Rattle.std.proofs.Common.{arith, ◌∙◌}
 use Rattle.std.proofs.Math.Path.{refl, ap}
 use Rattle.std.proofs.Math.Bool.{true, false}
@@ -14,8 +14,6 @@ use Rattle.chart.specs.Examined.{numbered, formed, position_formed, move_formed,
 use Rattle.chart.specs.Header.{WithinLimits}
 use Rattle.chart.specs.Good.{Formed, GoodPosition, GoodMove, GoodChart, position-letter, move-letter, line-position, line-move}
 use Rattle.refusal.specs.declared.Misdrawn.TheVariants.{Disturbed, Resting}
-use Rattle.chart.specs.declared.Finding.TheVariants.{Clean, Fault}
-use Rattle.chart.specs.declared.Examination.TheVariants.{Accepted}
 
 number_is : (f : Field) (x : ℕ) → f ≡ Number x → is_number f ≡ true
 unfolding is_number
@@ -26,7 +24,7 @@ unfolding formed numbered
 form-passes Letter allowed f g e tells w =
     simp (tells.1 w.allowed, number_is f _ w.first-number, number_is g _ w.second-number, eq-eqb e 10 w.ends)
 
-position-passes : (text : List ℕ) (i : ℕ) → GoodPosition text i → position_finding text i ≡ Clean
+position-passes : (text : List ℕ) (i : ℕ) → GoodPosition text i → position_finding text i ≡ Ok tt
 unfolding position_finding position_formed judged_position
 position-passes text i w =
     simp (
@@ -35,15 +33,15 @@ position-passes text i w =
       le-ltb 1 (field_number (mark_at text i)) w.small,
     )
 
-order-passes : (n i : ℕ) (rising : Bool) → (n < i - 1 → rising ≡ true) → ordered n i rising ≡ Clean
+order-passes : (n i : ℕ) (rising : Bool) → (n < i - 1 → rising ≡ true) → ordered n i rising ≡ Ok tt
 unfolding ordered
 order-passes n i rising h = go (leb (i - 1) n) refl
   where
-    go : (p : Bool) → leb (i - 1) n ≡ p → ordered n i rising ≡ Clean
+    go : (p : Bool) → leb (i - 1) n ≡ p → ordered n i rising ≡ Ok tt
     go true e = simp e
     go false e = simp (e, h (leb-false (i - 1) n e))
 
-owner-passes : (text : List ℕ) (n i : ℕ) → GoodMove text n i → judged_owner n i (letter_at text i) (letter_at text (from_at text i + 1)) (rises text i) ≡ Clean
+owner-passes : (text : List ℕ) (n i : ℕ) → GoodMove text n i → judged_owner n i (letter_at text i) (letter_at text (from_at text i + 1)) (rises text i) ≡ Ok tt
 unfolding judged_owner
 owner-passes text n i w =
     simp (order-passes n i (rises text i) w.above)
@@ -56,14 +54,14 @@ owner-passes text n i w =
     owner = letter_at text (from_at text i + 1)
 
     go : (p q r s : Bool) → eqb letter 68 ≡ p → eqb owner 76 ≡ q → eqb letter 77 ≡ r → eqb owner 82 ≡ s →
-        cond p (cond q (Fault (Disturbed i)) Clean) (cond r (cond s (Fault (Resting i)) Clean) Clean) ≡ Clean
+        cond p (cond q (Err (Disturbed i)) (Ok (tt {0}))) (cond r (cond s (Err (Resting i)) (Ok tt)) (Ok tt)) ≡ Ok tt
     go true true r s a b c d = absurd (w.undisturbed (eqb-true letter 68 a) (eqb-true owner 76 b))
     go true false r s a b c d = refl
     go false q true true a b c d = absurd (w.unmeant (eqb-true letter 77 c) (eqb-true owner 82 d))
     go false q true false a b c d = refl
     go false q false s a b c d = refl
 
-move-passes : (text : List ℕ) (n i : ℕ) → GoodMove text n i → move_finding text n i ≡ Clean
+move-passes : (text : List ℕ) (n i : ℕ) → GoodMove text n i → move_finding text n i ≡ Ok tt
 unfolding move_finding move_formed judged_move
 move-passes text n i w =
     simp (
@@ -73,7 +71,7 @@ move-passes text n i w =
       owner-passes text n i w,
     )
 
-header-passes : (text : List ℕ) → WithinLimits (header_formed text) (length text) (positions_of text) (moves_of text) → header_of text ≡ Accepted (record { positions = positions_of text; moves = moves_of text })
+header-passes : (text : List ℕ) → WithinLimits (header_formed text) (length text) (positions_of text) (moves_of text) → header_of text ≡ Ok (record { positions = positions_of text; moves = moves_of text })
 unfolding header_of limits_of
 header-passes text l =
     simp (
@@ -97,16 +95,16 @@ module _ (text : List ℕ) (good : GoodChart text) where
           let k : positions_of text < i = leb-false i (positions_of text) e in
           ap is_clean (line-move text (positions_of text) i k ∙ move-passes text (positions_of text) i (good.move i k (omega arith)))
 
-  meant-passes : (v : ℕ) → v < positions_of text → missing_at text (positions_of text) (moves_of text) v ≡ Clean
+  meant-passes : (v : ℕ) → v < positions_of text → missing_at text (positions_of text) (moves_of text) v ≡ Ok tt
   unfolding missing_at
   meant-passes v h = go (eqb (letter_at text (v + 1)) 82) refl
     where
-      go : (r : Bool) → eqb (letter_at text (v + 1)) 82 ≡ r → missing_at text (positions_of text) (moves_of text) v ≡ Clean
+      go : (r : Bool) → eqb (letter_at text (v + 1)) 82 ≡ r → missing_at text (positions_of text) (moves_of text) v ≡ Ok tt
       go true e = simp e
       go false e = simp (e, good.meant v h (eqb-false (letter_at text (v + 1)) 82 e))
 
   -- a text whose lines are good is accepted, with its header's counts
-  pub good-accepted : examined text ≡ Accepted (record { positions = positions_of text; moves = moves_of text })
+  pub good-accepted : examined text ≡ Ok (record { positions = positions_of text; moves = moves_of text })
   unfolding examined lines_after after_header answer or_else
   good-accepted =
       let l = good.limits in
@@ -116,6 +114,6 @@ module _ (text : List ℕ) (good : GoodChart text) where
         le-ltb 55308 (length text) (omega arith),
         eq-eqb (length text % 12) 0 (omega arith),
         header-passes text l,
-        first-none (λ i. is_clean (line_finding text (positions_of text) i)) (line_finding text (positions_of text)) Clean (positions_of text + moves_of text) 1 line-passes,
-        first-none (λ v. is_clean (missing_at text (positions_of text) (moves_of text) v)) (missing_at text (positions_of text) (moves_of text)) Clean (positions_of text) 0 (λ v a b. ap is_clean (meant-passes v (omega arith))),
+        first-none (λ i. is_clean (line_finding text (positions_of text) i)) (line_finding text (positions_of text)) (Ok tt) (positions_of text + moves_of text) 1 line-passes,
+        first-none (λ v. is_clean (missing_at text (positions_of text) (moves_of text) v)) (missing_at text (positions_of text) (moves_of text)) (Ok tt) (positions_of text) 0 (λ v a b. ap is_clean (meant-passes v (omega arith))),
       )

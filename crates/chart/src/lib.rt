@@ -12,20 +12,6 @@ use field::{Field, read};
 use refusal::Misdrawn;
 use rows::Chart;
 
-// What examining a text answers.
-#[derive(Clone, Copy)]
-pub enum Examination {
-    Accepted(Chart),
-    Refused(Misdrawn),
-}
-
-// What examining a part of a text finds.
-#[derive(Clone, Copy)]
-enum Finding {
-    Clean,
-    Fault(Misdrawn),
-}
-
 // The columns of a line: its letter, its two fields and its last byte.
 #[derive(Clone, Copy)]
 struct Row {
@@ -36,27 +22,25 @@ struct Row {
 }
 
 // The counts of a chart, or the first refusal in document 01's order.
-pub fn examine(text: &[u8]) -> Examination
+pub fn examine(text: &[u8]) -> Result<Chart, Misdrawn>
     ensures { result ≡ examined text.now }
 {
     let size = text.len();
     if size == 0 {
-        return Examination::Refused(Misdrawn::Length);
+        return Err(Misdrawn::Length);
     }
     if Chart::BYTES < size {
-        return Examination::Refused(Misdrawn::Length);
+        return Err(Misdrawn::Length);
     }
     if size % Chart::LINE != 0 {
-        return Examination::Refused(Misdrawn::Length);
+        return Err(Misdrawn::Length);
     }
-    match header(text) {
-        Examination::Refused(r) => Examination::Refused(r),
-        Examination::Accepted(chart) => after_header(text, chart),
-    }
+    let chart = header(text)?;
+    after_header(text, chart)
 }
 
 // The header: its form, the limits, and that there are as many lines as it says. The bound keeps it within the text.
-pub fn header(text: &[u8]) -> Examination
+pub fn header(text: &[u8]) -> Result<Chart, Misdrawn>
     requires { 12 ≤ length text.now }
     ensures { result ≡ header_of text.now }
 {
@@ -67,35 +51,35 @@ pub fn header(text: &[u8]) -> Examination
     limits(ok, text.len(), number(first), number(second))
 }
 
-fn limits(ok: bool, size: usize, n: usize, m: usize) -> Examination
+fn limits(ok: bool, size: usize, n: usize, m: usize) -> Result<Chart, Misdrawn>
     ensures { result ≡ limits_of ok size n m }
 {
     if !ok {
-        return Examination::Refused(Misdrawn::Form(0));
+        return Err(Misdrawn::Form(0));
     }
     if n < 1 {
-        return Examination::Refused(Misdrawn::Limits);
+        return Err(Misdrawn::Limits);
     }
     if Chart::POSITIONS < n {
-        return Examination::Refused(Misdrawn::Limits);
+        return Err(Misdrawn::Limits);
     }
     if m < 1 {
-        return Examination::Refused(Misdrawn::Limits);
+        return Err(Misdrawn::Limits);
     }
     if Chart::MOVES < m {
-        return Examination::Refused(Misdrawn::Limits);
+        return Err(Misdrawn::Limits);
     }
     if size != (1 + n + m) * Chart::LINE {
-        return Examination::Refused(Misdrawn::Count);
+        return Err(Misdrawn::Count);
     }
-    Examination::Accepted(Chart {
+    Ok(Chart {
         positions: n,
         moves: m,
     })
 }
 
 // The lines after a header with these counts, and then that each position but those of rest has a meant move: the lines' flags tell.
-fn after_header(text: &[u8], chart: Chart) -> Examination
+fn after_header(text: &[u8], chart: Chart) -> Result<Chart, Misdrawn>
     requires moves_in_bounds { (1 + chart.positions + chart.moves) * 12 ≤ length text.now }
     requires positions_bound { (chart.positions ≤ 512) × (chart.moves ≤ 4096) }
     ensures { result ≡ after_header text.now chart }
@@ -103,34 +87,25 @@ fn after_header(text: &[u8], chart: Chart) -> Examination
     let n = chart.positions;
     let m = chart.moves;
     let mut flags = [0u8; Chart::POSITIONS];
-    match first_fault(text, n, n + m, &mut flags) {
-        Finding::Fault(r) => Examination::Refused(r),
-        Finding::Clean => match unflagged(text, &flags, n) {
-            Finding::Fault(r) => Examination::Refused(r),
-            Finding::Clean => Examination::Accepted(chart),
-        },
-    }
+    first_fault(text, n, n + m, &mut flags)?;
+    unflagged(text, &flags, n)?;
+    Ok(chart)
 }
 
 // The first fault on lines 1 to `last`, of which the first n are positions. Each line's columns serve the next line too.
 // Where there is no fault, a 1 for each position that a meant move is from; the other flags stay.
-fn first_fault(text: &[u8], n: usize, last: usize, flags: &mut [u8]) -> Finding
+fn first_fault(text: &[u8], n: usize, last: usize, flags: &mut [u8]) -> Result<(), Misdrawn>
     requires { (n ≤ last) × ((last + 1) * 12 ≤ length text.now) }
-    ensures { (result ≡ first_fault (line_finding text.now n) last 1) × (result ≡ Finding.Clean → (v : ℕ) → v < length flags.old → get_or flags.new v 0 ≡ cond (meant_in text.now n (last - n) v) 1 (get_or flags.old v 0)) }
+    ensures { (result ≡ first_fault (line_finding text.now n) last 1) × (result ≡ Ok tt → (v : ℕ) → v < length flags.old → get_or flags.new v 0 ≡ cond (meant_in text.now n (last - n) v) 1 (get_or flags.old v 0)) }
 {
-    let mut line = 1;
     let mut before = row_at(text, 0);
-    while line <= last {
+    for line in 1..last + 1 {
         let row = row_at(text, line);
-        match line_fault(text, n, line, row, before) {
-            Finding::Fault(r) => return Finding::Fault(r),
-            Finding::Clean => {}
-        }
+        line_fault(text, n, line, row, before)?;
         flag_row(n < line, row, flags);
         before = row;
-        line += 1;
     }
-    Finding::Clean
+    Ok(())
 }
 
 // The columns of a line.
@@ -150,7 +125,7 @@ fn row_at(text: &[u8], line: usize) -> Row
 }
 
 // The fault of one line, from its columns and those of the line before.
-fn line_fault(text: &[u8], n: usize, line: usize, row: Row, before: Row) -> Finding
+fn line_fault(text: &[u8], n: usize, line: usize, row: Row, before: Row) -> Result<(), Misdrawn>
     requires le_line { (1 ≤ line) × ((line + 1) * 12 ≤ length text.now) }
     requires row_value { (row ≡ row_at text.now line) × (before ≡ row_at text.now (line - 1)) }
     ensures { result ≡ line_finding text.now n line }
@@ -163,7 +138,7 @@ fn line_fault(text: &[u8], n: usize, line: usize, row: Row, before: Row) -> Find
 }
 
 // A position line from its columns, of which the second field is the mark. A blank is taken here and nowhere else.
-fn position_fault(line: usize, row: Row) -> Finding
+fn position_fault(line: usize, row: Row) -> Result<(), Misdrawn>
     requires { 1 ≤ line }
     ensures { result ≡ position_row_finding row line }
 {
@@ -185,24 +160,24 @@ fn mark(f: Field) -> Field
     }
 }
 
-fn judge_position(ok: bool, line: usize, position: usize, mark: usize) -> Finding
+fn judge_position(ok: bool, line: usize, position: usize, mark: usize) -> Result<(), Misdrawn>
     requires { 1 ≤ line }
     ensures { result ≡ judged_position ok line position mark }
 {
     if !ok {
-        return Finding::Fault(Misdrawn::Form(line));
+        return Err(Misdrawn::Form(line));
     }
     if position != line - 1 {
-        return Finding::Fault(Misdrawn::Sequence(line));
+        return Err(Misdrawn::Sequence(line));
     }
     if 1 < mark {
-        return Finding::Fault(Misdrawn::Sequence(line));
+        return Err(Misdrawn::Sequence(line));
     }
-    Finding::Clean
+    Ok(())
 }
 
 // A move line after n positions, from its columns and those of the line before.
-fn move_fault(text: &[u8], n: usize, line: usize, row: Row, before: Row) -> Finding
+fn move_fault(text: &[u8], n: usize, line: usize, row: Row, before: Row) -> Result<(), Misdrawn>
     requires le_line { 1 ≤ line }
     requires row_value { (row ≡ row_at text.now line) × (before ≡ row_at text.now (line - 1)) }
     ensures { result ≡ move_finding text.now n line }
@@ -227,36 +202,36 @@ fn judge_move(
     to: usize,
     owner: u8,
     rises: bool,
-) -> Finding
+) -> Result<(), Misdrawn>
     requires { 1 ≤ line }
     ensures { result ≡ judged_move ok n line letter from to owner rises }
 {
     if !ok {
-        return Finding::Fault(Misdrawn::Form(line));
+        return Err(Misdrawn::Form(line));
     }
     if n <= from {
-        return Finding::Fault(Misdrawn::Endpoint(line));
+        return Err(Misdrawn::Endpoint(line));
     }
     if n <= to {
-        return Finding::Fault(Misdrawn::Endpoint(line));
+        return Err(Misdrawn::Endpoint(line));
     }
     judge_owner(n, line, letter, owner, rises)
 }
 
 // By the owner of the position moved from: no disturbance leaves an L, no meant move an R.
-fn judge_owner(n: usize, line: usize, letter: u8, owner: u8, rises: bool) -> Finding
+fn judge_owner(n: usize, line: usize, letter: u8, owner: u8, rises: bool) -> Result<(), Misdrawn>
     requires { 1 ≤ line }
     ensures { result ≡ judged_owner n line letter owner rises }
 {
     if letter == b'D' {
         if owner == b'L' {
-            return Finding::Fault(Misdrawn::Disturbed(line));
+            return Err(Misdrawn::Disturbed(line));
         }
         return judge_order(n, line, rises);
     }
     if letter == b'M' {
         if owner == b'R' {
-            return Finding::Fault(Misdrawn::Resting(line));
+            return Err(Misdrawn::Resting(line));
         }
         return judge_order(n, line, rises);
     }
@@ -264,17 +239,17 @@ fn judge_owner(n: usize, line: usize, letter: u8, owner: u8, rises: bool) -> Fin
 }
 
 // The first move line has none before it.
-fn judge_order(n: usize, line: usize, rises: bool) -> Finding
+fn judge_order(n: usize, line: usize, rises: bool) -> Result<(), Misdrawn>
     requires { 1 ≤ line }
     ensures { result ≡ ordered n line rises }
 {
     if line - 1 <= n {
-        return Finding::Clean;
+        return Ok(());
     }
     if rises {
-        Finding::Clean
+        Ok(())
     } else {
-        Finding::Fault(Misdrawn::Order(line))
+        Err(Misdrawn::Order(line))
     }
 }
 
@@ -388,20 +363,18 @@ fn flag_row(moves: bool, row: Row, flags: &mut [u8])
 }
 
 // The lowest of n positions whose flag is 0; one of rest needs none.
-fn unflagged(text: &[u8], flags: &[u8], n: usize) -> Finding
+fn unflagged(text: &[u8], flags: &[u8], n: usize) -> Result<(), Misdrawn>
     requires { (n ≤ 512) × (n ≤ length flags.now) }
     ensures { result ≡ first_fault (unflagged_at text.now flags.now) n 0 }
 {
-    let mut v = 0;
-    while v < n {
+    for v in 0..n {
         if flags[v] == 0 {
             if letter_at(text, v + 1) != b'R' {
-                return Finding::Fault(Misdrawn::NoMeant(v + 1));
+                return Err(Misdrawn::NoMeant(v + 1));
             }
         }
-        v += 1;
     }
-    Finding::Clean
+    Ok(())
 }
 
 // A line's letter; 0 past the end, as for a line that a bad move names.

@@ -1,5 +1,6 @@
 -- What is read of a plate of the form is what checking its rows wants, and the answer to the rows is the answer to the plate.
-use Rattle.std.specs.Prelude.{ℕ, ◌≤◌, ◌<◌, ◌≡◌, refl, ◌⊎◌, List}
+use Rattle.std.specs.Prelude.{ℕ, ◌≤◌, ◌<◌, ◌≡◌, refl, ◌⊎◌, List, ⊤, Result, Ok, Err}
+use Rattle.verdict.specs.declared.FoundFault.{FoundFault}
 use Rattle.std.proofs.Common.{arith, sym, ap, ◌∙◌, inl, inr}
 use Rattle.rows.specs.Rows.{Ascending, RowsOf}
 use Rattle.rows.specs.Numbers.{number_of, row_value, Agree}
@@ -12,7 +13,6 @@ use Rattle.chart.specs.Accepted.{accepted-chartable, accepted-moves, froms-rise}
 use Rattle.rows.specs.declared.Chart.{Chart}
 use Rattle.refusal.specs.declared.Misdrawn.{Misdrawn}
 use Rattle.refusal.specs.declared.Refusal.TheVariants.{Chart as OfChart, Plate}
-use Rattle.chart.specs.declared.Examination.TheVariants.{Accepted as Taken, Refused as Turned}
 use Rattle.rows.specs.declared.FirstLine.{FirstLine}
 use Rattle.plate.specs.Form.{OfForm}
 use Rattle.plate.specs.Formed.{form_of}
@@ -22,19 +22,15 @@ use Rattle.plate.specs.Range.{Below}
 use Rattle.plate.specs.RangeLaws.{below-fits}
 use Rattle.plate.specs.RoundTrip.{read-in-range}
 use Rattle.plate.specs.RowTrip.{row-column}
-use Rattle.plate.specs.declared.Form.{Form as PlateForm}
-use Rattle.plate.specs.declared.Form.TheVariants.{Good, Bad}
 use Rattle.verdict.specs.Verdict.{verdict_of}
 use Rattle.verdict.specs.Sheet.{Formed, sheet}
 use Rattle.verdict.specs.RowsChecked.{RowsChecked}
 use Rattle.checking.specs.Checking.{FormedIs, PlateIs, answer_of, chart_checked, checked, plate_checked, plate_verdict}
+use Rattle.refusal.specs.declared.Refusal.{Refusal}
 use Rattle.verdict.specs.SameFault.{verdict-same}
-use Rattle.verdict.specs.declared.Verdict.{Verdict}
-use Rattle.checking.specs.declared.Checked.{Checked}
-use Rattle.checking.specs.declared.Checked.TheVariants.{Accepted, Refused}
 
 -- the loaded moves lie by their positions
-pub decoded-ascending : (text : List ℕ) (chart : Chart) → examined text ≡ Taken chart → {n : ℕ} {owners marks costs froms tos : List ℕ}
+pub decoded-ascending : (text : List ℕ) (chart : Chart) → examined text ≡ Ok chart → {n : ℕ} {owners marks costs froms tos : List ℕ}
     → RowsOf (arena_of text) n chart.moves owners marks costs froms tos → Ascending chart.moves froms
 decoded-ascending text chart e d i j l k =
     let rise = froms-rise (arena_of text) (accepted-chartable text chart e) i j l (rw (accepted-moves text chart e) k) in
@@ -52,7 +48,7 @@ unfolding Below target_of
 target-inside n (fin k) some l = l
 target-inside n ever some l = some
 
-module _ (n : ℕ) (plate : List ℕ) (few : n ≤ 512) (good : form_of n plate ≡ Good) {header : FirstLine} {values₀ values choices₀ choices steps₀ steps : List ℕ}
+module _ (n : ℕ) (plate : List ℕ) (few : n ≤ 512) (good : form_of n plate ≡ Ok tt) {header : FirstLine} {values₀ values choices₀ choices steps₀ steps : List ℕ}
     (read : RowsRead n plate header values₀ values choices₀ choices steps₀ steps) where
   form : OfForm n plate
   form = (form-exact n plate).0 good
@@ -66,7 +62,7 @@ module _ (n : ℕ) (plate : List ℕ) (few : n ≤ 512) (good : form_of n plate 
       }
 
   module _ {m : ℕ} {owners marks costs froms tos : List ℕ} where
-    verdict-is : {r : Verdict} → RowsChecked n m (sheet owners marks costs froms tos values choices steps) header r
+    verdict-is : {r : Result ⊤ FoundFault} → RowsChecked n m (sheet owners marks costs froms tos values choices steps) header r
         → (a : Arena) → RowsOf a n m owners marks costs froms tos
         → r ≡ plate_verdict a plate
     verdict-is checked a d =
@@ -89,36 +85,36 @@ module _ (n : ℕ) (plate : List ℕ) (few : n ≤ 512) (good : form_of n plate 
             let k : v < n = rw d.positions at l in
             rw (d.positions, choice-column v k) (target-inside n (choice_in_plate plate v) (omega arith) ((read-in-range n plate few form).choice-in v k))
 
-    pub formed-verdict : {r : Verdict} → RowsChecked n m (sheet owners marks costs froms tos values choices steps) header r → FormedIs n m owners marks costs froms tos plate r
+    pub formed-verdict : {r : Result ⊤ FoundFault} → RowsChecked n m (sheet owners marks costs froms tos values choices steps) header r → FormedIs n m owners marks costs froms tos plate r
     formed-verdict checked = record { verdict = verdict-is checked }
 
 -- a plate of the form
-pub formed-answer : {n m : ℕ} {owners marks costs froms tos plate : List ℕ} {r v : Verdict} → form_of n plate ≡ Good → FormedIs n m owners marks costs froms tos plate r → r ≡ v
+pub formed-answer : {n m : ℕ} {owners marks costs froms tos plate : List ℕ} {r v : Result ⊤ FoundFault} → form_of n plate ≡ Ok tt → FormedIs n m owners marks costs froms tos plate r → r ≡ v
     → PlateIs n m owners marks costs froms tos plate (answer_of v)
 unfolding plate_checked
 formed-answer good is e = record { answer = λ a d. ap answer_of (sym e ∙ is.verdict a d) ∙ rw good }
 
 -- a plate that is not of the form
-pub bad-answer : {n m line : ℕ} {owners marks costs froms tos plate : List ℕ} → form_of n plate ≡ Bad line → PlateIs n m owners marks costs froms tos plate (Refused (Plate line))
+pub bad-answer : {n m line : ℕ} {owners marks costs froms tos plate : List ℕ} → form_of n plate ≡ Err line → PlateIs n m owners marks costs froms tos plate (Err (Plate line))
 unfolding plate_checked
 bad-answer bad = record { answer = λ a d. rw bad }
 
 -- only a plate of the form is accepted
-pub accepted-form : {n m : ℕ} {owners marks costs froms tos plate : List ℕ} {r : Checked} (a : Arena) → RowsOf a n m owners marks costs froms tos
-    → PlateIs n m owners marks costs froms tos plate r → r ≡ Accepted → form_of n plate ≡ Good
+pub accepted-form : {n m : ℕ} {owners marks costs froms tos plate : List ℕ} {r : Result ⊤ Refusal} (a : Arena) → RowsOf a n m owners marks costs froms tos
+    → PlateIs n m owners marks costs froms tos plate r → r ≡ Ok tt → form_of n plate ≡ Ok tt
 unfolding plate_checked
 accepted-form {n = n} {plate = plate} a d is e = go (form_of n plate) (sym e ∙ is.answer a d)
   where
-    go : (f : PlateForm) → Accepted ≡ plate_checked a plate f → f ≡ Good
-    go Good z = refl
-    go (Bad line) z = let w : ◌≡◌ {A = ℕ} 0 1 = cc in absurd (omega arith)
+    go : (f : Result ⊤ ℕ) → (Ok tt) ≡ plate_checked a plate f → f ≡ Ok tt
+    go (Ok _) z = refl
+    go (Err line) z = let w : ◌≡◌ {A = ℕ} 0 1 = cc in absurd (omega arith)
 
 -- a chart that is refused, and one that is taken
-pub refused-answer : (text plate : List ℕ) (r : Misdrawn) → examined text ≡ Turned r → Refused (OfChart r) ≡ checked text plate
+pub refused-answer : (text plate : List ℕ) (r : Misdrawn) → examined text ≡ Err r → Err (OfChart r) ≡ checked text plate
 unfolding checked chart_checked
 refused-answer text plate r e = rw e
 
-pub taken-answer : (text plate : List ℕ) (chart : Chart) {r : Checked} {owners marks costs froms tos : List ℕ} → examined text ≡ Taken chart
+pub taken-answer : (text plate : List ℕ) (chart : Chart) {r : Result ⊤ Refusal} {owners marks costs froms tos : List ℕ} → examined text ≡ Ok chart
     → RowsOf (arena_of text) chart.positions chart.moves owners marks costs froms tos
     → PlateIs chart.positions chart.moves owners marks costs froms tos plate r → r ≡ checked text plate
 unfolding checked chart_checked

@@ -1,6 +1,6 @@
 -- "An accepted plate has the right values and an optimal controller, whoever made it. With right values and
 -- any optimal positional controller, the steps above make a plate that is accepted", its first line counted.
-use Rattle.std.specs.Prelude.{ℕ, ◌≤◌, ◌<◌, ◌≡◌, refl, List}
+use Rattle.std.specs.Prelude.{ℕ, ◌≤◌, ◌<◌, ◌≡◌, refl, List, Ok}
 use Rattle.std.proofs.Common.{arith, sym, ap, subst, ◌∙◌}
 use Rattle.plate.specs.RangeLaws.{below-when, legal-below}
 use Rattle.rows.specs.Numbers.{value_of}
@@ -18,7 +18,6 @@ use Rattle.chart.specs.Meaning.{arena_of}
 use Rattle.chart.specs.Examined.{examined}
 use Rattle.chart.specs.Accepted.{accepted-chartable, accepted-size}
 use Rattle.rows.specs.declared.Chart.{Chart}
-use Rattle.chart.specs.declared.Examination.TheVariants.{Accepted as Taken}
 use Rattle.rows.specs.FirstLine.{FirstLineIs}
 use Rattle.rows.specs.FirstLineLaws.{first-line-same}
 use Rattle.rows.specs.declared.FirstLine.{FirstLine}
@@ -34,12 +33,10 @@ use Rattle.verdict.specs.SameFault.{verdict-same}
 use Rattle.checking.specs.Checking.{checked}
 use Rattle.checking.specs.CheckingLaws.{target-inside}
 use Rattle.checking.specs.AnswersExact.{accepted-of, answer-exactly}
-use Rattle.verdict.specs.declared.Verdict.TheVariants.{Sound}
-use Rattle.checking.specs.declared.Checked.TheVariants.{Accepted}
 
-pub accepted-plate-is-right : (text plate : List ℕ) → checked text plate ≡ Accepted → RightPlate (arena_of text) (value_in_plate plate) (choice_in_plate plate)
+pub accepted-plate-is-right : (text plate : List ℕ) → checked text plate ≡ Ok tt → RightPlate (arena_of text) (value_in_plate plate) (choice_in_plate plate)
 accepted-plate-is-right text plate e =
-    let is = (answer-exactly text plate Accepted).0 e in
+    let is = (answer-exactly text plate (Ok tt)).0 e in
     accepted-is-right (arena_of text) (accepted-chartable text is.chart is.taken).well-formed (value_in_plate plate) (choice_in_plate plate) (step_in_plate plate) (header_in plate)
     ((sound-exactly (arena_of text) (value_in_plate plate) (choice_in_plate plate) (step_in_plate plate) (header_in plate)).1 (is.certificate, is.header))
 
@@ -74,7 +71,7 @@ module _ (a : Arena) (well : WellFormed a) (few : size a ≤ 512) (value choice 
 
   -- what is read of it is sound
   right-plate-sound : verdict_of a (value_in_plate (plate_text (size a) h value choice (round_step a))) (choice_in_plate (plate_text (size a) h value choice (round_step a)))
-      (step_in_plate (plate_text (size a) h value choice (round_step a))) (header_in (plate_text (size a) h value choice (round_step a))) ≡ Sound
+      (step_in_plate (plate_text (size a) h value choice (round_step a))) (header_in (plate_text (size a) h value choice (round_step a))) ≡ Ok tt
   right-plate-sound =
       let back = reading-undoes-writing (size a) h value choice (round_step a) few right-in-range in
       ap (verdict_of a _ _ _) back.header
@@ -82,15 +79,15 @@ module _ (a : Arena) (well : WellFormed a) (few : size a ≤ 512) (value choice 
       (λ v l. rw (back.choice-at v l) (target-inside (size a) (choice v) (omega arith) (choice-inside v l))) h
       ∙ right-is-accepted a well value choice (round_step a) h plate header
 
-pub right-plate-is-accepted : (text : List ℕ) (chart : Chart) → examined text ≡ Taken chart → (value choice : ℕ → Value) → RightPlate (arena_of text) value choice
+pub right-plate-is-accepted : (text : List ℕ) (chart : Chart) → examined text ≡ Ok chart → (value choice : ℕ → Value) → RightPlate (arena_of text) value choice
     → (h : FirstLine) → FirstLineIs (size (arena_of text)) value (round_step (arena_of text)) h
-    → checked text (plate_text (size (arena_of text)) h value choice (round_step (arena_of text))) ≡ Accepted
+    → checked text (plate_text (size (arena_of text)) h value choice (round_step (arena_of text))) ≡ Ok tt
 right-plate-is-accepted text chart taken value choice right h header =
     let good = accepted-chartable text chart taken in
     let range = right-in-range (arena_of text) good.well-formed good.few-positions value choice right h header in
     let form = set-out-is-of-form (size (arena_of text)) h value choice (round_step (arena_of text)) good.few-positions range in
     let plate = plate_text (size (arena_of text)) h value choice (round_step (arena_of text)) in
-    accepted-of text plate chart taken (subst (λ (n : ℕ). OfForm n plate) (accepted-size text chart taken) form) Sound
+    accepted-of text plate chart taken (subst (λ (n : ℕ). OfForm n plate) (accepted-size text chart taken) form) (Ok tt)
     (right-plate-sound (arena_of text) good.well-formed good.few-positions value choice right h header)
 
 -- so the rounds' own plate is accepted
@@ -98,9 +95,9 @@ pub rounds-plate-is-right : (a : Arena) → WellFormed a → RightPlate a (round
 rounds-plate-is-right a well =
     record { right = rounds-give-the-values a well; legal = best-is-legal a (round_value a) well; optimal = round-choices-are-worth-the-values a well }
 
-pub rounds-plate-is-accepted : (text : List ℕ) (chart : Chart) → examined text ≡ Taken chart → (h : FirstLine)
+pub rounds-plate-is-accepted : (text : List ℕ) (chart : Chart) → examined text ≡ Ok chart → (h : FirstLine)
     → FirstLineIs (size (arena_of text)) (round_value (arena_of text)) (round_step (arena_of text)) h
-    → checked text (plate_text (size (arena_of text)) h (round_value (arena_of text)) (best_at (arena_of text) (round_value (arena_of text))) (round_step (arena_of text))) ≡ Accepted
+    → checked text (plate_text (size (arena_of text)) h (round_value (arena_of text)) (best_at (arena_of text) (round_value (arena_of text))) (round_step (arena_of text))) ≡ Ok tt
 rounds-plate-is-accepted text chart taken h header =
     right-plate-is-accepted text chart taken (round_value (arena_of text)) (best_at (arena_of text) (round_value (arena_of text)))
     (rounds-plate-is-right (arena_of text) (accepted-chartable text chart taken).well-formed) h header

@@ -7,22 +7,15 @@ ghost use Rattle.rows.specs.Rows.{Ascending, ChartRows};
 ghost use Rattle.plate.specs.Formed.{form_of};
 ghost use Rattle.checking.specs.Checking.{FormedIs, PlateIs, checked};
 
-use chart::Examination;
 use decode::load;
-use plate::{Form, read_rows};
-use plate_walk::{Sheet, load_plate};
+use plate::read_rows;
+use plate_walk::load_plate;
 use refusal::Refusal;
 use rows::Chart;
-use verdict::{Verdict, check_rows};
+use verdict::{FoundFault, check_rows};
 
-// What Checking answers: accepted, or a refusal: the chart's, 11 or 14.
-#[derive(Clone, Copy)]
-pub enum Checked {
-    Accepted,
-    Refused(Refusal),
-}
-
-pub fn check(text: &[u8], plate: &[u8]) -> Checked
+// Accepts a plate, or refuses: the chart's refusal, 11 or 14.
+pub fn check(text: &[u8], plate: &[u8]) -> Result<(), Refusal>
     ensures { result ≡ checked text.now plate.now }
 {
     let mut owners = [0u8; Chart::POSITIONS];
@@ -30,21 +23,17 @@ pub fn check(text: &[u8], plate: &[u8]) -> Checked
     let mut costs = [0u8; Chart::MOVES];
     let mut froms = [0u16; Chart::MOVES];
     let mut tos = [0u16; Chart::MOVES];
-    match load(
+    let chart = load(
         text,
         &mut owners,
         &mut marks,
         &mut costs,
         &mut froms,
         &mut tos,
-    ) {
-        Examination::Refused(r) => Checked::Refused(Refusal::Chart(r)),
-        Examination::Accepted(chart) => {
-            let n = chart.positions;
-            let m = chart.moves;
-            check_plate(n, m, &owners, &marks, &costs, &froms, &tos, plate)
-        }
-    }
+    )?;
+    let n = chart.positions;
+    let m = chart.moves;
+    check_plate(n, m, &owners, &marks, &costs, &froms, &tos, plate)
 }
 
 // Checks a plate against a chart's rows, for who has these already: the form first. The bounds are what `load` gives.
@@ -57,24 +46,20 @@ pub fn check_plate(
     froms: &[u16],
     tos: &[u16],
     plate: &[u8],
-) -> Checked
+) -> Result<(), Refusal>
     requires { ChartRows n m owners.now marks.now costs.now froms.now tos.now × Ascending m froms.now }
     ensures { PlateIs n m owners.now marks.now costs.now froms.now tos.now plate.now result }
 {
     let mut values = [0u16; Chart::POSITIONS];
     let mut choices = [0u16; Chart::POSITIONS];
     let mut steps = [0u16; Chart::POSITIONS];
-    match load_plate(n, plate, &mut values, &mut choices, &mut steps) {
-        Sheet::Bad(line) => Checked::Refused(Refusal::Plate(line)),
-        Sheet::Rows(header) => {
-            match check_rows(
-                n, m, owners, marks, costs, froms, tos, &values, &choices, &steps, header,
-            ) {
-                Verdict::Sound => Checked::Accepted,
-                Verdict::Fault(v, condition) => Checked::Refused(Refusal::Fault(v, condition)),
-            }
-        }
-    }
+    let header = load_plate(n, plate, &mut values, &mut choices, &mut steps).map_err(
+        Refusal::Plate,
+    )?;
+    check_rows(
+        n, m, owners, marks, costs, froms, tos, &values, &choices, &steps, header,
+    )?;
+    Ok(())
 }
 
 // The first fault of a plate of the form, for who has looked at the form already. The bounds are what `load` and the plate's form give.
@@ -87,8 +72,8 @@ pub fn check_formed(
     froms: &[u16],
     tos: &[u16],
     plate: &[u8],
-) -> Verdict
-    requires { ChartRows n m owners.now marks.now costs.now froms.now tos.now × Ascending m froms.now × (form_of n plate.now ≡ Form.Good) }
+) -> Result<(), FoundFault>
+    requires { ChartRows n m owners.now marks.now costs.now froms.now tos.now × Ascending m froms.now × (form_of n plate.now ≡ Ok tt) }
     ensures { FormedIs n m owners.now marks.now costs.now froms.now tos.now plate.now result }
 {
     let mut values = [0u16; Chart::POSITIONS];

@@ -68,9 +68,7 @@ pub fn choose(
     ensures { Chosen n m owners.now costs.now froms.now tos.now values.now choices.old choices.new }
 {
     clear(n, choices);
-    let mut i: usize = 0;
-    while i < m {
+    for i in 0..m {
         choose_by(i, owners, costs, froms, tos, values, choices);
-        i += 1;
     }
 }

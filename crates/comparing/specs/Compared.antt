@@ -1,5 +1,7 @@
 -- What Comparing promises: its computed answer, and of an answer that is no refusal the mission's third demand for these choices.
-use Rattle.std.specs.Prelude.{ℕ, ◌<◌, ◌≡◌, List}
+use Rattle.std.specs.Prelude.{ℕ, ◌<◌, ◌≡◌, List, Option, Some, None, Result, Ok}
+use Rattle.comparing.specs.declared.Difference.{Difference}
+use Rattle.comparing.specs.Comparing.{difference_of}
 use Rattle.rows.specs.Numbers.{value_of, row_value}
 use Rattle.game.specs.Value.{◌≺◌}
 use Rattle.game.specs.Arena.{size}
@@ -7,9 +9,8 @@ use Rattle.game.specs.Play.{Controller, Legal, positional}
 use Rattle.game.specs.Worth.{WorthIs, AtMost, IsValue}
 use Rattle.chart.specs.Meaning.{arena_of}
 use Rattle.plate.specs.Read.{value_in_plate}
+use Rattle.refusal.specs.declared.Refusal.{Refusal}
 use Rattle.comparing.specs.Comparing.{compared}
-use Rattle.comparing.specs.declared.Compared.{Compared}
-use Rattle.comparing.specs.declared.Compared.TheVariants.{Agree, Differ}
 
 -- the controller that makes the choices is worth the plate's value at each position, and no controller is worth more anywhere: to
 -- each, with any memory, there is an unsafe play that costs no more
@@ -30,7 +31,7 @@ pub record DifferIs (text plate choices : List ℕ) (v x y : ℕ) : Type 0 where
   pub better : (τ : Controller (arena_of text)) × WorthIs (arena_of text) τ v (value_of x)
 
 -- the answer, with what it means
-pub record ComparedIs (text plate choices : List ℕ) (r : Compared) : Type 0 where
+pub record ComparedIs (text plate choices : List ℕ) (r : Result (Option Difference) Refusal) : Type 0 where
   pub answer : r ≡ compared text plate choices
-  pub agrees : r ≡ Agree → AgreeIs text plate choices
-  pub differs : (v x y : ℕ) → r ≡ Differ v x y → DifferIs text plate choices v x y
+  pub agrees : r ≡ Ok None → AgreeIs text plate choices
+  pub differs : (v x y : ℕ) → r ≡ Ok (Some (difference_of v x y)) → DifferIs text plate choices v x y

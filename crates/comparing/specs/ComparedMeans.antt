@@ -1,7 +1,10 @@
 -- What Comparing's answer means. Where it is no refusal the plate was accepted and the choices are legal, so its values are the values
 -- and the worths those of the controller: equal rows are a controller that none surpasses, and at a difference some controller is worth
 -- the value, which is more.
-use Rattle.std.specs.Prelude.{ℕ, ◌≤◌, ◌<◌, ◌≡◌, refl, ◌⊎◌, Bool, true, false, List, length, leb, eqb}
+use Rattle.std.specs.Prelude.{ℕ, ◌≤◌, ◌<◌, ◌≡◌, refl, ◌⊎◌, Bool, true, false, List, length, leb, eqb, ⊤, Option, Some, None, Result, Ok, Err}
+use Rattle.verdict.specs.declared.FoundFault.{FoundFault}
+use Rattle.comparing.specs.declared.Difference.{Difference}
+use Rattle.comparing.specs.Comparing.{difference_of}
 use Rattle.std.proofs.Common.{arith, sym, ap, subst, ◌∙◌, inl, inr, ⊎_elim, eqb-true, leb-true, leb-false}
 use Rattle.std.proofs.lemmas.Bool.{eqb-false}
 use Rattle.rows.specs.Numbers.{value_of, number_of, row_value}
@@ -23,8 +26,6 @@ use Rattle.rows.specs.declared.Chart.{Chart}
 use Rattle.chart.specs.Meaning.{arena_of}
 use Rattle.chart.specs.Examined.{examined}
 use Rattle.chart.specs.Accepted.{accepted-chartable, accepted-size}
-use Rattle.chart.specs.declared.Examination.{Examination}
-use Rattle.chart.specs.declared.Examination.TheVariants.{Accepted as Taken, Refused as Turned}
 use Rattle.weighing.specs.Weighing.{legal_row}
 use Rattle.weighing.specs.WeighingLaws.{legal-row-sound, restricted-rounds-are-worths, worths-fit}
 use Rattle.plate.specs.Exact.{form-exact}
@@ -32,20 +33,15 @@ use Rattle.plate.specs.Formed.{form_of}
 use Rattle.plate.specs.RangeLaws.{below-fits}
 use Rattle.plate.specs.Read.{header_in, value_in_plate, choice_in_plate, step_in_plate}
 use Rattle.plate.specs.RoundTrip.{read-in-range}
-use Rattle.plate.specs.declared.Form.{Form}
-use Rattle.plate.specs.declared.Form.TheVariants.{Good, Bad}
 use Rattle.verdict.specs.Accepted.{accepted-is-right}
 use Rattle.verdict.specs.Verdict.{RightPlate}
-use Rattle.verdict.specs.declared.Verdict.{Verdict}
-use Rattle.verdict.specs.declared.Verdict.TheVariants.{Sound, Fault as FaultAt}
 use Rattle.checking.specs.Checking.{plate_verdict}
 use Rattle.checking.specs.Answers.{AcceptedIs}
 use Rattle.checking.specs.AnswersExact.{accepted-sound, verdict-means}
 use Rattle.comparing.specs.Comparing.{value_number, worth_number, first_difference, compared}
 use Rattle.comparing.specs.Compared.{AgreeIs, DifferIs, ComparedIs}
+use Rattle.refusal.specs.declared.Misdrawn.{Misdrawn}
 use Rattle.comparing.specs.Order.{first-the-chart, then-ten, then-eleven, then-twelve, then-fourteen, then-the-rows}
-use Rattle.comparing.specs.declared.Compared.{Compared}
-use Rattle.comparing.specs.declared.Compared.TheVariants.{Agree, Differ, Refused}
 
 -- no refusal's condition holds
 record RowsCompared (text plate choices : List ℕ) : Type 0 where
@@ -55,29 +51,29 @@ record RowsCompared (text plate choices : List ℕ) : Type 0 where
 
 module _ (text plate choices : List ℕ) where
   abbrev Settled : Type 0
-  Settled = ((x : Refusal) × (compared text plate choices ≡ Refused x)) ⊎ RowsCompared text plate choices
+  Settled = ((x : Refusal) × (compared text plate choices ≡ Err x)) ⊎ RowsCompared text plate choices
 
-  module _ (chart : Chart) (taken : examined text ≡ Taken chart) (enough : chart.positions ≤ length choices) where
-    by-verdict : (form : form_of chart.positions plate ≡ Good) → legal_row (arena_of text) (row_value choices) (size (arena_of text)) ≡ true
-        → (r : Verdict) → plate_verdict (arena_of text) plate ≡ r → Settled
-    by-verdict form lawful (FaultAt v c) e = inl (Fault v c, then-fourteen text plate choices chart taken enough form lawful v c e)
-    by-verdict form lawful Sound e = inr (record {
-      accepted = verdict-means text plate chart taken ((form-exact chart.positions plate).0 form) Sound e;
+  module _ (chart : Chart) (taken : examined text ≡ Ok chart) (enough : chart.positions ≤ length choices) where
+    by-verdict : (form : form_of chart.positions plate ≡ Ok tt) → legal_row (arena_of text) (row_value choices) (size (arena_of text)) ≡ true
+        → (r : Result ⊤ FoundFault) → plate_verdict (arena_of text) plate ≡ r → Settled
+    by-verdict form lawful (Err f) e = inl (Fault f.position f.condition, then-fourteen text plate choices chart taken enough form lawful f.position f.condition e)
+    by-verdict form lawful (Ok _) e = inr (record {
+      accepted = verdict-means text plate chart taken ((form-exact chart.positions plate).0 form) (Ok tt) e;
       lawful = lawful;
       is = then-the-rows text plate choices chart taken enough form lawful e;
     })
 
-    by-choices : form_of chart.positions plate ≡ Good → (b : Bool) → legal_row (arena_of text) (row_value choices) (size (arena_of text)) ≡ b → Settled
+    by-choices : form_of chart.positions plate ≡ Ok tt → (b : Bool) → legal_row (arena_of text) (row_value choices) (size (arena_of text)) ≡ b → Settled
     by-choices form true e = by-verdict form e (plate_verdict (arena_of text) plate) refl
     by-choices form false e = inl (Choice, then-twelve text plate choices chart taken enough form e)
 
-    by_form : (f : Form) → form_of chart.positions plate ≡ f → Settled
-    by_form (Bad line) e = inl (Plate line, then-eleven text plate choices chart taken enough line e)
-    by_form Good e = by-choices e (legal_row (arena_of text) (row_value choices) (size (arena_of text))) refl
+    by_form : (f : Result ⊤ ℕ) → form_of chart.positions plate ≡ f → Settled
+    by_form (Err line) e = inl (Plate line, then-eleven text plate choices chart taken enough line e)
+    by_form (Ok _) e = by-choices e (legal_row (arena_of text) (row_value choices) (size (arena_of text))) refl
 
-  by-chart : (x : Examination) → examined text ≡ x → Settled
-  by-chart (Turned r) e = inl (OfChart r, first-the-chart text plate choices r e)
-  by-chart (Taken chart) e = go (leb chart.positions (length choices)) refl
+  by-chart : (x : Result Chart Misdrawn) → examined text ≡ x → Settled
+  by-chart (Err r) e = inl (OfChart r, first-the-chart text plate choices r e)
+  by-chart (Ok chart) e = go (leb chart.positions (length choices)) refl
     where
       go : (b : Bool) → leb chart.positions (length choices) ≡ b → Settled
       go true h = by_form chart e (leb-true _ _ h) (form_of chart.positions plate) refl
@@ -150,12 +146,12 @@ module _ {text plate choices : List ℕ} (w : RowsCompared text plate choices) w
       }
 
 -- the job's promise, of the computed answer
-pub compared_is : (text plate choices : List ℕ) {r : Compared} → r ≡ compared text plate choices → ComparedIs text plate choices r
+pub compared_is : (text plate choices : List ℕ) {r : Result (Option Difference) Refusal} → r ≡ compared text plate choices → ComparedIs text plate choices r
 compared_is text plate choices {r} e =
     ⊎_elim refused (λ w. ⊎_elim (agreed w) (differing w) (first_or_none (λ v. eqb (value_number plate v) (worth_number (arena_of text) choices v)) (size (arena_of text)) 0))
     (by-chart text plate choices (examined text) refl)
   where
-    refused : ((x : Refusal) × (compared text plate choices ≡ Refused x)) → ComparedIs text plate choices r
+    refused : ((x : Refusal) × (compared text plate choices ≡ Err x)) → ComparedIs text plate choices r
     refused (x, f) =
         record {
           answer = e;
@@ -165,19 +161,20 @@ compared_is text plate choices {r} e =
 
     agreed : RowsCompared text plate choices → AllPass (λ v. eqb (value_number plate v) (worth_number (arena_of text) choices v)) (size (arena_of text)) 0 → ComparedIs text plate choices r
     agreed w same =
-        let f : r ≡ Agree = e ∙ w.is ∙ first-none _ _ Agree (size (arena_of text)) 0 same in
+        let f : r ≡ (Ok None) = e ∙ w.is ∙ first-none _ _ (Ok None) (size (arena_of text)) 0 same in
         record { answer = e; agrees = λ q. all-agree w same; differs = λ v x y q. let z : ◌≡◌ {A = ℕ} 0 1 = cc in absurd (omega arith) }
 
     differing : RowsCompared text plate choices → ((v : ℕ) × FirstAt (λ v. eqb (value_number plate v) (worth_number (arena_of text) choices v)) (size (arena_of text)) 0 v)
         → ComparedIs text plate choices r
     differing w (u, first) =
-        let f : r ≡ Differ u (value_number plate u) (worth_number (arena_of text) choices u) = e ∙ w.is ∙ first-at _ _ Agree (size (arena_of text)) 0 u first in
+        let f : r ≡ Ok (Some (difference_of u (value_number plate u) (worth_number (arena_of text) choices u))) = e ∙ w.is ∙ first-at _ _ (Ok None) (size (arena_of text)) 0 u first in
         record {
           answer = e;
           agrees = λ q. let z : ◌≡◌ {A = ℕ} 0 1 = cc in absurd (omega arith);
           differs = λ v x y q.
-              let p : u ≡ v = cc in
-              let s : value_number plate u ≡ x = cc in
-              let t : worth_number (arena_of text) choices u ≡ y = cc in
+              let same : difference_of u (value_number plate u) (worth_number (arena_of text) choices u) ≡ difference_of v x y = cc in
+              let p : u ≡ v = ap (λ (d : Difference). d.position) same in
+              let s : value_number plate u ≡ x = ap (λ (d : Difference). d.value) same in
+              let t : worth_number (arena_of text) choices u ≡ y = ap (λ (d : Difference). d.worth) same in
               rw (← p, ← s, ← t) (first-differs w u first);
         }

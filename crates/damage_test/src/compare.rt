@@ -1,13 +1,14 @@
 // Compares the library's answers to a text with the table's, and with its answers to the same text with 0 in the place of blank marks;
 // and counts.
-use crate::damage::damage;
-use crate::draw::{NONE, Page, draw, put_field};
+use crate::damage::{Kind, damage};
+use crate::draw::{Field, Page, draw, put_field};
 use crate::table::{Answer, accepted, judge, number, refused, spells};
-use chart::{Examination, examine};
-use listing::{Listed, list_good_moves};
-use refusal::Refusal;
+use chart::examine;
+use listing::list_good_moves;
+use refusal::{Misdrawn, Numbers, Refusal};
+use rows::Chart;
 use std::io;
-use writing::{Written, write_plate};
+use writing::write_plate;
 
 // Answers by their number, 0 for accepted ones, and what follows.
 pub type Tally = [usize; 14];
@@ -21,9 +22,6 @@ const MISMATCHES: usize = 12;
 // Answers with number 17.
 pub const RESTING: usize = 13;
 
-// Room for a small chart's plate, and for all its good moves.
-type Sheet = [u8; 2048];
-
 fn add(tally: &mut Tally, k: usize) {
     tally[k % 14] = tally[k % 14] % 1000000000 + 1;
 }
@@ -31,14 +29,14 @@ fn add(tally: &mut Tally, k: usize) {
 // Draws a chart, damages it by a kind, and compares.
 pub fn compare_drawn(
     rt: &impl Print,
-    kind: usize,
+    kind: Kind,
     rests: bool,
     seed: &mut usize,
     tally: &mut Tally,
 ) -> io::Result<()> {
     let mut page = [b'#'; 4096];
     let lines = draw(&mut page, rests, seed) % 341;
-    let size = if kind == 0 {
+    let size = if kind == Kind::Whole {
         lines * 12
     } else {
         damage(&mut page, lines * 12, kind, rests, seed)
@@ -50,40 +48,24 @@ pub fn compare_drawn(
 
 // The first bytes of a page.
 fn part(page: &Page, size: usize) -> &[u8] {
-    front(page, size)
-}
-
-fn front(text: &[u8], size: usize) -> &[u8] {
-    if size <= text.len() {
-        &text[0..size]
-    } else {
-        text
-    }
+    &page[..size.min(4096)]
 }
 
 // Writes 0 for blank marks, and answers how many there were.
 fn fill(page: &mut Page, size: usize) -> usize {
-    let lines = marked(page, size);
-    let mut count: usize = 0;
-    let mut v = 0;
-    while v < lines {
-        if is_blank(page, v + 1) {
-            put_field(page, v % 340 * 12 + 18, 0);
-            count = count % 1024 + 1;
+    let mut count = 0;
+    for v in 0..marked(page, size) {
+        if spells(page, v + 1, 6, Field::Blank) {
+            put_field(page, v % 340 * 12 + 18, Field::Number(0));
+            count += 1;
         }
-        v += 1;
     }
     count
 }
 
 // How many lines have a mark: as many as the header says, 0 where the text has not so many.
 fn marked(page: &Page, size: usize) -> usize {
-    let n = number(page, 0, 1);
-    if n < size / 12 { n } else { 0 }
-}
-
-fn is_blank(page: &Page, i: usize) -> bool {
-    spells(page, i, 6, NONE)
+    number(page, 0, 1).filter(|n| *n < size / 12).unwrap_or(0)
 }
 
 // All comparisons of a text. In the filled one every blank mark is 0.
@@ -94,6 +76,7 @@ pub fn compare_text(
     blanks: usize,
     tally: &mut Tally,
 ) -> io::Result<()> {
+    // Room for a small chart's plate.
     let mut plate = [b'#'; 2048];
     let mut other = [b'#'; 2048];
     let expected = judge(text);
@@ -102,14 +85,7 @@ pub fn compare_text(
     let answer = written(write_plate(text, &mut plate));
     expect(rt, answer, expected, true, text, tally)?;
     let answer = written(write_plate(filled, &mut other));
-    expect(
-        rt,
-        answer,
-        expected,
-        same_sheets(&plate, &other),
-        text,
-        tally,
-    )?;
+    expect(rt, answer, expected, plate == other, text, tally)?;
     compare_sheets(rt, text, filled, expected, tally)
 }
 
@@ -131,9 +107,9 @@ fn compare_sheets(
         line: expected.line,
         length: again.length,
     };
-    let stayed = (expected.number == 0) | same_sheets(&sheet, &blank);
+    let stayed = (expected.number == 0) | (sheet == blank);
     expect(rt, answer, wanted, stayed, text, tally)?;
-    expect(rt, again, wanted, same_sheets(&sheet, &other), text, tally)
+    expect(rt, again, wanted, sheet == other, text, tally)
 }
 
 fn count(number: usize, blanks: usize, tally: &mut Tally) {
@@ -146,50 +122,39 @@ fn count(number: usize, blanks: usize, tally: &mut Tally) {
     }
 }
 
-fn examined(answer: Examination) -> Answer {
+fn examined(answer: Result<Chart, Misdrawn>) -> Answer {
     match answer {
-        Examination::Accepted(c) => accepted(c.positions),
-        Examination::Refused(m) => numbered(Refusal::Chart(m)),
+        Ok(c) => accepted(c.positions),
+        Err(m) => numbered(Refusal::Chart(m)),
     }
 }
 
-fn written(answer: Written) -> Answer {
+fn written(answer: Result<usize, Refusal>) -> Answer {
     match answer {
-        Written::Length(length) => Answer {
+        Ok(length) => Answer {
             number: 0,
             line: 0,
             length,
         },
-        Written::Refused(r) => numbered(r),
+        Err(r) => numbered(r),
     }
 }
 
 // The count of lines stands as the length.
-fn listed(answer: Listed) -> Answer {
+fn listed(answer: Result<usize, Refusal>) -> Answer {
     match answer {
-        Listed::Lines(length) => Answer {
+        Ok(length) => Answer {
             number: 0,
             line: 0,
             length,
         },
-        Listed::Refused(r) => numbered(r),
+        Err(r) => numbered(r),
     }
 }
 
 fn numbered(refusal: Refusal) -> Answer {
-    let r = refusal.numbers();
+    let r = Numbers::from(refusal);
     refused(r.number as usize, r.line)
-}
-
-fn same_sheets(a: &Sheet, b: &Sheet) -> bool {
-    let mut i: usize = 0;
-    while i < 2048 {
-        if a[i] != b[i] {
-            return false;
-        }
-        i += 1;
-    }
-    true
 }
 
 // Counts an answer that is not the table's, or sheets that differ. The first few are shown, with their text.
@@ -201,12 +166,11 @@ fn expect(
     text: &[u8],
     tally: &mut Tally,
 ) -> io::Result<()> {
-    let refusals = (answer.number == expected.number) & (answer.line == expected.line);
-    if refusals & sheets & (answer.length == expected.length) {
+    if sheets && answer == expected {
         return Ok(());
     }
     add(tally, MISMATCHES);
-    if tally[12] < 5 {
+    if tally[MISMATCHES] < 5 {
         show(rt, b"answered", answer)?;
         show(rt, b", by the table", expected)?;
         rt.write_all(b"\n")?;

@@ -4,6 +4,8 @@
 #![tactic(auto)]
 
 use crate::compare::{RESTING, Tally, compare_drawn, compare_text};
+use crate::damage::Kind;
+use reference::tally::report_count;
 use std::io;
 
 mod compare;
@@ -15,36 +17,54 @@ fn main(rt: HostRuntime) -> io::Result<()> {
     rt.write_all(
         b"accepted, refused by 1 to 9; with blank marks, accepted of these; mismatches\n",
     )?;
-    some(&rt, b"as drawn", 0, 10000, false)?;
-    some(&rt, b"a byte changed", 1, 20000, false)?;
-    some(&rt, b"a field changed", 2, 40000, false)?;
-    some(&rt, b"a letter changed", 3, 10000, false)?;
-    some(&rt, b"a line dropped", 4, 10000, false)?;
-    some(&rt, b"a line doubled", 5, 10000, false)?;
-    some(&rt, b"two lines exchanged", 6, 10000, false)?;
-    some(&rt, b"the header changed", 7, 10000, false)?;
-    some(&rt, b"cut or lengthened", 8, 10000, false)?;
-    some(&rt, b"two of these", 10, 80000, false)?;
+    some_moving(&rt)?;
     long(&rt)?;
-    some(&rt, b"some of rest, as drawn", 0, 10000, true)?;
-    some(&rt, b"some of rest, a byte changed", 1, 10000, true)?;
-    some(&rt, b"some of rest, a field changed", 2, 20000, true)?;
-    some(&rt, b"some of rest, a letter changed", 3, 20000, true)?;
-    some(&rt, b"some of rest, a line dropped", 4, 5000, true)?;
-    some(&rt, b"some of rest, a line doubled", 5, 5000, true)?;
-    some(&rt, b"some of rest, two lines exchanged", 6, 5000, true)?;
-    some(&rt, b"some of rest, a meant move from one", 9, 10000, true)?;
-    some(&rt, b"some of rest, two of these", 10, 40000, true)
+    some_resting(&rt)
+}
+
+// Charts without positions of rest.
+fn some_moving(rt: &impl Print) -> io::Result<()> {
+    for (name, kind, charts) in [
+        ("as drawn", Kind::Whole, 10000),
+        ("a byte changed", Kind::Byte, 20000),
+        ("a field changed", Kind::Field, 40000),
+        ("a letter changed", Kind::Letter, 10000),
+        ("a line dropped", Kind::Dropped, 10000),
+        ("a line doubled", Kind::Doubled, 10000),
+        ("two lines exchanged", Kind::Exchanged, 10000),
+        ("the header changed", Kind::Header, 10000),
+        ("cut or lengthened", Kind::Length, 10000),
+        ("two of these", Kind::Two, 80000),
+    ] {
+        some(rt, name, kind, charts, false)?;
+    }
+    Ok(())
+}
+
+// Charts with some.
+fn some_resting(rt: &impl Print) -> io::Result<()> {
+    for (name, kind, charts) in [
+        ("some of rest, as drawn", Kind::Whole, 10000),
+        ("some of rest, a byte changed", Kind::Byte, 10000),
+        ("some of rest, a field changed", Kind::Field, 20000),
+        ("some of rest, a letter changed", Kind::Letter, 20000),
+        ("some of rest, a line dropped", Kind::Dropped, 5000),
+        ("some of rest, a line doubled", Kind::Doubled, 5000),
+        ("some of rest, two lines exchanged", Kind::Exchanged, 5000),
+        ("some of rest, a meant move from one", Kind::FromRest, 10000),
+        ("some of rest, two of these", Kind::Two, 40000),
+    ] {
+        some(rt, name, kind, charts, true)?;
+    }
+    Ok(())
 }
 
 // Charts damaged by a kind, with positions of rest or without.
-fn some(rt: &impl Print, name: &[u8], kind: usize, charts: usize, rests: bool) -> io::Result<()> {
+fn some(rt: &impl Print, name: &str, kind: Kind, charts: usize, rests: bool) -> io::Result<()> {
     let mut tally = [0usize; 14];
     let mut seed = 1;
-    let mut i = 0;
-    while i < charts {
+    for _ in 0..charts {
         compare_drawn(rt, kind, rests, &mut seed, &mut tally)?;
-        i += 1;
     }
     report(rt, &tally, name)
 }
@@ -56,25 +76,15 @@ fn long(rt: &impl Print) -> io::Result<()> {
     let mut tally = [0usize; 14];
     compare_text(rt, &longest, &longest, 0, &mut tally)?;
     compare_text(rt, &longer, &longer, 0, &mut tally)?;
-    report(rt, &tally, b"55,308 and 55,320 spaces")
+    report(rt, &tally, "55,308 and 55,320 spaces")
 }
 
-fn report(rt: &impl Print, tally: &Tally, name: &[u8]) -> io::Result<()> {
-    let mut k: usize = 0;
-    while k < 13 {
-        rt.print(tally[k])?;
+fn report(rt: &impl Print, tally: &Tally, name: &str) -> io::Result<()> {
+    for count in &tally[..RESTING] {
+        rt.print(*count)?;
         rt.write_all(b" ")?;
-        k += 1;
     }
-    rt.write_all(name)?;
-    report_resting(rt, tally[RESTING])?;
+    rt.write_all(name.as_bytes())?;
+    report_count(rt, b", refused by 17: ", tally[RESTING])?;
     rt.write_all(b"\n")
-}
-
-fn report_resting(rt: &impl Print, count: usize) -> io::Result<()> {
-    if 0 < count {
-        rt.write_all(b", refused by 17: ")?;
-        rt.print(count)?;
-    }
-    Ok(())
 }

@@ -1,14 +1,12 @@
 -- What loading a chart leaves in the lent rows: the arena's numbers, and past them what was there before (document 01: "What lies past
 -- the last line or number stays"); on a refusal nothing of a chart. The jobs lend their own local rows.
-use Rattle.std.specs.Prelude.{ℕ, ◌≡◌, List, length}
+use Rattle.std.specs.Prelude.{ℕ, ◌≡◌, List, length, Result, Ok, Err}
 use Rattle.rows.specs.Rows.{RowIs, RowsOf, Stays}
 use Rattle.game.specs.Arena.{Arena}
 use Rattle.chart.specs.Meaning.{arena_of}
 use Rattle.chart.specs.Examined.{examined}
 use Rattle.rows.specs.declared.Chart.{Chart}
 use Rattle.refusal.specs.declared.Misdrawn.{Misdrawn}
-use Rattle.chart.specs.declared.Examination.{Examination}
-use Rattle.chart.specs.declared.Examination.TheVariants.{Accepted, Refused}
 
 -- the rows hold the arena, and what lies past its numbers stays
 pub record Loaded (a : Arena) (n m : ℕ) (owners₀ owners marks₀ marks costs₀ costs froms₀ froms tos₀ tos : List ℕ) : Type 0 where
@@ -28,7 +26,7 @@ pub record Cleared (owners marks costs froms tos : List ℕ) : Type 0 where
   pub tos-clear : RowIs tos (length tos) (λ v. 65535)
 
 -- the answer is the examination's; an accepted chart's arena is in the rows, and a refusal clears them
-pub record LoadIs (text : List ℕ) (r : Examination) (owners₀ owners marks₀ marks costs₀ costs froms₀ froms tos₀ tos : List ℕ) : Type 0 where
+pub record LoadIs (text : List ℕ) (r : Result Chart Misdrawn) (owners₀ owners marks₀ marks costs₀ costs froms₀ froms tos₀ tos : List ℕ) : Type 0 where
   pub answer : r ≡ examined text
-  pub taken : (chart : Chart) → r ≡ Accepted chart → Loaded (arena_of text) chart.positions chart.moves owners₀ owners marks₀ marks costs₀ costs froms₀ froms tos₀ tos
-  pub refused : (s : Misdrawn) → r ≡ Refused s → Cleared owners marks costs froms tos
+  pub taken : (chart : Chart) → r ≡ Ok chart → Loaded (arena_of text) chart.positions chart.moves owners₀ owners marks₀ marks costs₀ costs froms₀ froms tos₀ tos
+  pub refused : (s : Misdrawn) → r ≡ Err s → Cleared owners marks costs froms tos

@@ -1,5 +1,5 @@
 -- The rows of an accepted text, decoded line by line, are its arena's.
-use Rattle.std.specs.Prelude.{ℕ, ◌+◌, ◌*◌, ◌≤◌, ◌<◌, ◌≡◌, refl, List, length}
+use Rattle.std.specs.Prelude.{ℕ, ◌+◌, ◌*◌, ◌≤◌, ◌<◌, ◌≡◌, refl, List, length, Result, Ok, Err}
 use Rattle.std.proofs.Common.{arith, sym, ap, subst, ◌∙◌}
 use Rattle.rows.specs.Rows.{RowIs, Filled, Kept, owner_number}
 use Rattle.game.specs.Arena.{Position, Move}
@@ -16,8 +16,6 @@ use Rattle.chart.specs.Accepted.{accepted-chartable, accepted-size, accepted-mov
 use Rattle.chart.specs.Good.{GoodChart, accepted-good}
 use Rattle.rows.specs.declared.Chart.{Chart}
 use Rattle.refusal.specs.declared.Misdrawn.{Misdrawn}
-use Rattle.chart.specs.declared.Examination.{Examination}
-use Rattle.chart.specs.declared.Examination.TheVariants.{Accepted, Refused}
 use Rattle.walk.specs.Decoded.{PositionRows, MoveRows}
 use Rattle.decode.specs.Loaded.{Loaded, Cleared, LoadIs}
 
@@ -69,18 +67,18 @@ good-moves text g =
       to-spelt = λ i h. field-spells text ((positions_of text + 1 + i) * 12 + 6) _ (g.move (positions_of text + 1 + i) (omega arith) (omega arith)).form.second-number;
     }
 
-pub positions-fit : (text : List ℕ) (chart : Chart) → examined text ≡ Accepted chart → PositionsFit text chart.positions
+pub positions-fit : (text : List ℕ) (chart : Chart) → examined text ≡ Ok chart → PositionsFit text chart.positions
 positions-fit text chart e =
     let w = accepted-good text chart e in
     subst (λ (k : Chart). PositionsFit text k.positions) (sym w.1) (good-positions text w.0)
 
-pub moves-fit : (text : List ℕ) (chart : Chart) → examined text ≡ Accepted chart → MovesFit text (chart.positions + 1) chart.moves
+pub moves-fit : (text : List ℕ) (chart : Chart) → examined text ≡ Ok chart → MovesFit text (chart.positions + 1) chart.moves
 moves-fit text chart e =
     let w = accepted-good text chart e in
     subst (λ (k : Chart). MovesFit text (k.positions + 1) k.moves) (sym w.1) (good-moves text w.0)
 
 -- the decoded rows of an accepted text are its arena's
-accepted-rows-load : (text : List ℕ) (chart : Chart) (owners₀ owners marks₀ marks costs₀ costs froms₀ froms tos₀ tos : List ℕ) → examined text ≡ Accepted chart →
+accepted-rows-load : (text : List ℕ) (chart : Chart) (owners₀ owners marks₀ marks costs₀ costs froms₀ froms tos₀ tos : List ℕ) → examined text ≡ Ok chart →
     (512 ≤ length owners) × (512 ≤ length marks) → (4096 ≤ length costs) × (4096 ≤ length froms) × (4096 ≤ length tos) →
     PositionRows text chart.positions owners₀ owners marks₀ marks → MoveRows text (chart.positions + 1) chart.moves costs₀ costs froms₀ froms tos₀ tos →
     Loaded (arena_of text) chart.positions chart.moves owners₀ owners marks₀ marks costs₀ costs froms₀ froms tos₀ tos
@@ -120,10 +118,10 @@ accepted-rows-load text chart owners₀ owners marks₀ marks costs₀ costs fro
     }
 
 -- so an accepted text is loaded
-pub accepted-loads : (text : List ℕ) (chart : Chart) (owners₀ owners marks₀ marks costs₀ costs froms₀ froms tos₀ tos : List ℕ) → examined text ≡ Accepted chart →
+pub accepted-loads : (text : List ℕ) (chart : Chart) (owners₀ owners marks₀ marks costs₀ costs froms₀ froms tos₀ tos : List ℕ) → examined text ≡ Ok chart →
     (512 ≤ length owners) × (512 ≤ length marks) → (4096 ≤ length costs) × (4096 ≤ length froms) × (4096 ≤ length tos) →
     PositionRows text chart.positions owners₀ owners marks₀ marks → MoveRows text (chart.positions + 1) chart.moves costs₀ costs froms₀ froms tos₀ tos →
-    LoadIs text (Accepted chart) owners₀ owners marks₀ marks costs₀ costs froms₀ froms tos₀ tos
+    LoadIs text (Ok chart) owners₀ owners marks₀ marks costs₀ costs froms₀ froms tos₀ tos
 accepted-loads text chart owners₀ owners marks₀ marks costs₀ costs froms₀ froms tos₀ tos e long longer p m =
     record {
       answer = sym e;
@@ -135,8 +133,8 @@ accepted-loads text chart owners₀ owners marks₀ marks costs₀ costs froms�
     }
 
 -- and a refused one is not
-pub refused-loads : (text : List ℕ) (s : Misdrawn) (owners₀ owners marks₀ marks costs₀ costs froms₀ froms tos₀ tos : List ℕ) → examined text ≡ Refused s →
-    Cleared owners marks costs froms tos → LoadIs text (Refused s) owners₀ owners marks₀ marks costs₀ costs froms₀ froms tos₀ tos
+pub refused-loads : (text : List ℕ) (s : Misdrawn) (owners₀ owners marks₀ marks costs₀ costs froms₀ froms tos₀ tos : List ℕ) → examined text ≡ Err s →
+    Cleared owners marks costs froms tos → LoadIs text (Err s) owners₀ owners marks₀ marks costs₀ costs froms₀ froms tos₀ tos
 refused-loads text s owners₀ owners marks₀ marks costs₀ costs froms₀ froms tos₀ tos e w =
     record {
       answer = sym e;
@@ -145,8 +143,8 @@ refused-loads text s owners₀ owners marks₀ marks costs₀ costs froms₀ fro
     }
 
 -- an answer to a chart of these counts whose rows were written before: what lies past the counts is what was there at first
-pub load_after : (text : List ℕ) (chart : Chart) (r : Examination) (owners₀ owners₁ owners marks₀ marks₁ marks costs₀ costs₁ costs froms₀ froms₁ froms tos₀ tos₁ tos : List ℕ) →
-    header_of text ≡ Accepted chart → Kept chart.positions owners₀ owners₁ → Kept chart.positions marks₀ marks₁ →
+pub load_after : (text : List ℕ) (chart : Chart) (r : Result Chart Misdrawn) (owners₀ owners₁ owners marks₀ marks₁ marks costs₀ costs₁ costs froms₀ froms₁ froms tos₀ tos₁ tos : List ℕ) →
+    header_of text ≡ Ok chart → Kept chart.positions owners₀ owners₁ → Kept chart.positions marks₀ marks₁ →
     Kept chart.moves costs₀ costs₁ → Kept chart.moves froms₀ froms₁ → Kept chart.moves tos₀ tos₁ →
     LoadIs text r owners₁ owners marks₁ marks costs₁ costs froms₁ froms tos₁ tos → LoadIs text r owners₀ owners marks₀ marks costs₀ costs froms₀ froms tos₀ tos
 load_after text chart r owners₀ owners₁ owners marks₀ marks₁ marks costs₀ costs₁ costs froms₀ froms₁ froms tos₀ tos₁ tos h a b c d e w =

@@ -6,8 +6,9 @@ ghost use Rattle.chart.specs.Examined.{examined};
 ghost use Rattle.walk.specs.Decoded.{PositionRows, MoveRows};
 ghost use Rattle.decode.specs.Loaded.{Cleared, LoadIs};
 
-use chart::{Examination, cost, examine, header};
+use chart::{cost, examine, header};
 use field::decimal;
+use refusal::Misdrawn;
 use rows::{Chart, clear, clear_flags};
 use walk::{owner, walk};
 
@@ -22,7 +23,7 @@ pub fn load(
     costs: &mut [u8],
     froms: &mut [u16],
     tos: &mut [u16],
-) -> Examination
+) -> Result<Chart, Misdrawn>
     requires in_bounds { (512 ≤ length owners.old) × (512 ≤ length marks.old) }
     requires in_bounds_2 { (4096 ≤ length costs.old) × (4096 ≤ length froms.old) × (4096 ≤ length tos.old) }
     ensures { LoadIs text.now result owners.old owners.new marks.old marks.new costs.old costs.new froms.old froms.new tos.old tos.new }
@@ -31,10 +32,10 @@ pub fn load(
         return load_exactly(text, owners, marks, costs, froms, tos);
     }
     match header(text) {
-        Examination::Refused(_) => load_exactly(text, owners, marks, costs, froms, tos),
-        Examination::Accepted(chart) => {
+        Err(_) => load_exactly(text, owners, marks, costs, froms, tos),
+        Ok(chart) => {
             if walk(text, chart, owners, marks, costs, froms, tos) {
-                return Examination::Accepted(chart);
+                return Ok(chart);
             }
             load_exactly(text, owners, marks, costs, froms, tos)
         }
@@ -49,20 +50,20 @@ fn load_exactly(
     costs: &mut [u8],
     froms: &mut [u16],
     tos: &mut [u16],
-) -> Examination
+) -> Result<Chart, Misdrawn>
     requires in_bounds { (512 ≤ length owners.old) × (512 ≤ length marks.old) }
     requires in_bounds_2 { (4096 ≤ length costs.old) × (4096 ≤ length froms.old) × (4096 ≤ length tos.old) }
     ensures { LoadIs text.now result owners.old owners.new marks.old marks.new costs.old costs.new froms.old froms.new tos.old tos.new }
 {
     match examine(text) {
-        Examination::Refused(r) => {
+        Err(r) => {
             clear_rows(owners, marks, costs, froms, tos);
-            Examination::Refused(r)
+            Err(r)
         }
-        Examination::Accepted(chart) => {
+        Ok(chart) => {
             decode_positions(text, chart, owners, marks);
             decode_moves(text, chart, costs, froms, tos);
-            Examination::Accepted(chart)
+            Ok(chart)
         }
     }
 }
@@ -86,34 +87,30 @@ fn clear_rows(
 
 // The rows of an accepted text's positions, on the lines from 1 on.
 fn decode_positions(text: &[u8], chart: Chart, owners: &mut [u8], marks: &mut [u8])
-    requires text_value { examined text.now ≡ Examination.Accepted chart }
+    requires text_value { examined text.now ≡ Ok chart }
     requires positions_in_bounds { (chart.positions ≤ length owners.old) × (chart.positions ≤ length marks.old) }
     ensures { PositionRows text.now chart.positions owners.old owners.new marks.old marks.new }
 {
     let n = chart.positions;
-    let mut v = 0;
-    while v < n {
+    for v in 0..n {
         let at = (v + 1) * Chart::LINE;
         owners[v] = owner(text[at]);
         marks[v] = decimal(text, at + 6) as u8;
-        v += 1;
     }
 }
 
 // The rows of an accepted text's moves, on the lines after the positions.
 fn decode_moves(text: &[u8], chart: Chart, costs: &mut [u8], froms: &mut [u16], tos: &mut [u16])
-    requires text_value { examined text.now ≡ Examination.Accepted chart }
+    requires text_value { examined text.now ≡ Ok chart }
     requires moves_in_bounds { (chart.moves ≤ length costs.old) × (chart.moves ≤ length froms.old) × (chart.moves ≤ length tos.old) }
     ensures { MoveRows text.now (chart.positions + 1) chart.moves costs.old costs.new froms.old froms.new tos.old tos.new }
 {
     let first = chart.positions + 1;
     let m = chart.moves;
-    let mut i = 0;
-    while i < m {
+    for i in 0..m {
         let at = (first + i) * Chart::LINE;
         costs[i] = cost(text[at]);
         froms[i] = decimal(text, at + 1) as u16;
         tos[i] = decimal(text, at + 6) as u16;
-        i += 1;
     }
 }

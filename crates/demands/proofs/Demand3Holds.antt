@@ -1,5 +1,5 @@
 -- The third demand's proof: the plate's values are the values, its own controller attains them all, and worths are unique.
-use Rattle.std.specs.Prelude.{ℕ, zero, suc, ◌≤◌, ◌<◌, ◌⊎◌, Bool, true, false, List, get_or, T}
+use Rattle.std.specs.Prelude.{ℕ, zero, suc, ◌≤◌, ◌<◌, ◌⊎◌, Bool, true, false, List, get_or, T, Ok}
 use Rattle.std.proofs.Common.{arith, ◌∙◌, inl}
 use Rattle.std.proofs.Math.Decide.{ℕ_discrete}
 use Rattle.std.proofs.Math.Path.{◌≡◌, refl, sym, ap, subst}
@@ -26,13 +26,11 @@ use Rattle.chart.specs.Accepted.{accepted-chartable, accepted-size}
 use Rattle.valuing.specs.ValuingLaws.{round-value-fits}
 use Rattle.weighing.specs.Weighing.{weighed, weighed_by}
 use Rattle.weighing.specs.WeighingLaws.{legal-row-complete}
-use Rattle.weighing.specs.declared.Weighed.TheVariants.{Done}
 use Rattle.plate.specs.Read.{value_in_plate, choice_in_plate, step_in_plate}
 use Rattle.verdict.specs.Verdict.{RightPlate}
 use Rattle.checking.specs.Answers.{AcceptedIs}
 use Rattle.checking.specs.AnswersExact.{answer-exactly}
 use Rattle.checking.specs.Plates.{accepted-plate-is-right}
-use Rattle.checking.specs.declared.Checked.TheVariants.{Accepted}
 use Rattle.refusal.specs.declared.Refusal.TheVariants.{Short}
 use Rattle.demands.specs.SanctionedLaws.{sanctioned-is-accepted}
 use Rattle.demands.specs.Demand1.{Clear}
@@ -56,7 +54,7 @@ agree-or-differ f g (suc n) = go (agree-or-differ f g n) (value_eq (f n) (g n)) 
 
 module _ {text plate values choices : List ℕ} (p : ReadPlate text plate values choices) where
   accepted : AcceptedIs text plate
-  accepted = (answer-exactly text plate Accepted).0 (sanctioned-is-accepted text plate p.sanctioned)
+  accepted = (answer-exactly text plate (Ok tt)).0 (sanctioned-is-accepted text plate p.sanctioned)
 
   well : WellFormed (arena_of text)
   well = (accepted-chartable text accepted.chart accepted.taken).well-formed
@@ -174,7 +172,7 @@ module _ {text plate values choices : List ℕ} (p : ReadPlate text plate values
       let enough : length p.choices₀ < size (arena_of text) → ⊥ = λ l. free.1.0 Short (refl, inr (inl l)) in
       omega (arith, same, enough)
 
-  pub own-choices-are-taken : (room : ℕ) → size (arena_of text) ≤ room → weighed text choices room ≡ Done
+  pub own-choices-are-taken : (room : ℕ) → size (arena_of text) ≤ room → weighed text choices room ≡ Ok tt
   unfolding weighed weighed_by
   own-choices-are-taken room space =
       let n = accepted-size text accepted.chart accepted.taken in

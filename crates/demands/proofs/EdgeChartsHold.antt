@@ -1,6 +1,6 @@
 -- What is expected of the charts at the edges holds of the definitions: one test that is computed over each list, and one law that makes
 -- of a passed test what the definitions say.
-use Rattle.std.specs.Prelude.{ℕ, zero, suc, ◌<◌, ◌≡◌, refl, Bool, true, false, ◌&&◌, length, T, eqb}
+use Rattle.std.specs.Prelude.{ℕ, zero, suc, ◌<◌, ◌≡◌, refl, Bool, true, false, ◌&&◌, length, T, eqb, Result, Ok, Err}
 use Rattle.std.proofs.Common.{arith, sym, subst, ⊎_elim, eqb→eq}
 use Rattle.std.proofs.Math.Decide.{ℕ_discrete}
 use mathlib.Core.List.Memᴰ
@@ -30,8 +30,6 @@ use Rattle.chart.specs.Accepted.{accepted-chartable}
 use Rattle.chart.specs.Exact.{refused-exactly, accepted-exactly}
 use Rattle.refusal.specs.Numbers.{misdrawn_number, misdrawn_line}
 use Rattle.rows.specs.declared.Chart.{Chart}
-use Rattle.chart.specs.declared.Examination.{Examination}
-use Rattle.chart.specs.declared.Examination.TheVariants.{Accepted, Refused}
 use Rattle.demands.specs.EdgeCharts.{Expected, refusal, plate, Edge, entry, PlateHolds, RefusalHolds, Holds, document_chart, document_plate, edge_charts, rest_charts}
 use Rattle.line.specs.Text.{dash_text, ever_text, entry_text, fields_text, line_text}
 use Rattle.line.specs.Joined.{joined}
@@ -39,6 +37,7 @@ use Rattle.plate.specs.Text.{value_entry, dash_entry, header_line, position_line
 use Rattle.listing.specs.Sheet.{good_line}
 use Rattle.listing.specs.Listing.{good_count, good_sheet}
 use Rattle.writing.specs.Writing.{plate_of}
+use Rattle.refusal.specs.declared.Misdrawn.{Misdrawn}
 use Rattle.valuing.specs.ValuedMeansHold.{pair_is}
 
 -- two rows agree below n
@@ -57,13 +56,13 @@ agree_at f g (suc n) v h l = here (ℕ_discrete v n) (agree_at f g n v (and_righ
 
 -- The tests
 
-unfoldable pub is_refused : Examination → ℕ → ℕ → Bool
-is_refused (Refused r) number line = eqb (misdrawn_number r) number && eqb (misdrawn_line r) line
-is_refused (Accepted chart) number line = false
+unfoldable pub is_refused : Result Chart Misdrawn → ℕ → ℕ → Bool
+is_refused (Err r) number line = eqb (misdrawn_number r) number && eqb (misdrawn_line r) line
+is_refused (Ok chart) number line = false
 
-unfoldable pub is_accepted : Examination → Bool
-is_accepted (Refused r) = false
-is_accepted (Accepted chart) = true
+unfoldable pub is_accepted : Result Chart Misdrawn → Bool
+is_accepted (Err r) = false
+is_accepted (Ok chart) = true
 
 unfoldable pub rows_right : Arena → (values choices steps : List Value) → Bool
 rows_right a values choices steps =
@@ -87,8 +86,8 @@ refusal-passes : (text : List ℕ) (number line : ℕ) → T (is_refused (examin
 unfolding is_refused
 refusal-passes text number line h = go (examined text) refl h
   where
-    go : (x : Examination) → examined text ≡ x → T (is_refused x number line) → RefusalHolds text number line
-    go (Refused r) e h =
+    go : (x : Result Chart Misdrawn) → examined text ≡ x → T (is_refused x number line) → RefusalHolds text number line
+    go (Err r) e h =
         record {
           refusal = r;
           first = (refused-exactly text r).0 e;
@@ -96,15 +95,15 @@ refusal-passes text number line h = go (examined text) refl h
           number_is = eqb→eq (misdrawn_number r) number (and_left (eqb (misdrawn_number r) number) (eqb (misdrawn_line r) line) h);
           line-is = eqb→eq (misdrawn_line r) line (and_right (eqb (misdrawn_number r) number) (eqb (misdrawn_line r) line) h);
         }
-    go (Accepted chart) e h = absurd h
+    go (Ok chart) e h = absurd h
 
-accepted-chart : (text : List ℕ) → T (is_accepted (examined text)) → (chart : Chart) × (examined text ≡ Accepted chart)
+accepted-chart : (text : List ℕ) → T (is_accepted (examined text)) → (chart : Chart) × (examined text ≡ Ok chart)
 unfolding is_accepted
 accepted-chart text h = go (examined text) refl h
   where
-    go : (x : Examination) → examined text ≡ x → T (is_accepted x) → (chart : Chart) × (examined text ≡ Accepted chart)
-    go (Refused r) e h = absurd h
-    go (Accepted chart) e h = (chart, e)
+    go : (x : Result Chart Misdrawn) → examined text ≡ x → T (is_accepted x) → (chart : Chart) × (examined text ≡ Ok chart)
+    go (Err r) e h = absurd h
+    go (Ok chart) e h = (chart, e)
 
 plate-passes : (text : List ℕ) (values choices steps : List Value) (rounds : ℕ) (top : Value) (evers : ℕ) → T (is_accepted (examined text))
     → T (rows_right (arena_of text) values choices steps) → T (counts_right (size (arena_of text)) values steps rounds top evers)

@@ -1,6 +1,6 @@
 -- The good moves' proof: the sheet's lines read as the good moves and as no others (listing/specs/SheetLaws.antt), and of good moves the
 -- theory knows the rest (game/proofs/GoodLaws.antt).
-use Rattle.std.specs.Prelude.{ℕ, ◌*◌, ◌≤◌, ◌<◌, ◌≡◌, refl, ◌↔◌, Bool, true, false, cond, List, ◌++◌, length, get_or, take, drop, leb}
+use Rattle.std.specs.Prelude.{ℕ, ◌*◌, ◌≤◌, ◌<◌, ◌≡◌, refl, ◌↔◌, Bool, true, false, cond, List, ◌++◌, length, get_or, take, drop, leb, Result, Ok, Err}
 use Rattle.std.proofs.Common.{arith, sym, ap, subst₂, ◌∙◌, take_at, drop_at}
 use Rattle.std.proofs.Math.Path.{subst}
 use Rattle.rows.specs.declared.Chart.{Chart}
@@ -20,38 +20,36 @@ use Rattle.chart.specs.Meaning.{arena_of}
 use Rattle.chart.specs.Lines.{Reads}
 use Rattle.chart.specs.Examined.{examined}
 use Rattle.chart.specs.Accepted.{accepted-chartable}
-use Rattle.chart.specs.declared.Examination.{Examination}
-use Rattle.chart.specs.declared.Examination.TheVariants.{Accepted, Refused}
 use Rattle.refusal.specs.declared.Refusal.TheVariants.{Short}
 use Rattle.plate.specs.Read.{choice_in_plate}
 use Rattle.checking.specs.Plates.{accepted-plate-is-right}
 use Rattle.listing.specs.Sheet.{SheetOf}
 use Rattle.listing.specs.Listing.{good_count, good_sheet, listed_rows, listed_by, listed, ListedIs}
 use Rattle.listing.specs.SheetLaws.{sheet-is, sheet-length, line-is-good, good-has-a-line, line_reads}
-use Rattle.listing.specs.declared.Listed.TheVariants.{Lines, Refused as Turned}
 use Rattle.demands.specs.Sanctioned.{Sanctioned}
 use Rattle.demands.specs.SanctionedLaws.{sanctioned-is-accepted}
+use Rattle.refusal.specs.declared.Misdrawn.{Misdrawn}
 use Rattle.demands.specs.GoodMoves.{OnSheet, ChoicesListed, WorthTheValue, WorthTheValues, GoodMoves, AllTheGoodMoves}
 
 -- what an answer with lines says: the chart was accepted, and the good moves are counted
 record Took (text : List ℕ) (k : ℕ) : Type 0 where
   chart : Chart
-  taken : examined text ≡ Accepted chart
+  taken : examined text ≡ Ok chart
   counted : k ≡ good_count (arena_of text)
 
-listing-took : (text : List ℕ) (room k : ℕ) → Lines k ≡ listed text room → Took text k
+listing-took : (text : List ℕ) (room k : ℕ) → Ok k ≡ listed text room → Took text k
 unfolding listed listed_by listed_rows
 listing-took text room k e = go (examined text) refl e
   where
-    both : (chart : Chart) → examined text ≡ Accepted chart → (b : Bool) → Lines k ≡ cond b (Lines (good_count (arena_of text))) (Turned Short) → Took text k
+    both : (chart : Chart) → examined text ≡ Ok chart → (b : Bool) → Ok k ≡ cond b (Ok (good_count (arena_of text))) (Err Short) → Took text k
     both chart t true e = record { chart = chart; taken = t; counted = cc }
     both chart t false e = let z : ◌≡◌ {A = ℕ} 0 1 = cc in absurd (omega arith)
 
-    go : (x : Examination) → examined text ≡ x → Lines k ≡ listed_by x (arena_of text) room → Took text k
-    go (Refused r) t e = let z : ◌≡◌ {A = ℕ} 0 1 = cc in absurd (omega arith)
-    go (Accepted chart) t e = both chart t (leb (good_count (arena_of text) * 12) room) e
+    go : (x : Result Chart Misdrawn) → examined text ≡ x → Ok k ≡ listed_by x (arena_of text) room → Took text k
+    go (Err r) t e = let z : ◌≡◌ {A = ℕ} 0 1 = cc in absurd (omega arith)
+    go (Ok chart) t e = both chart t (leb (good_count (arena_of text) * 12) room) e
 
-module _ {text out sheet : List ℕ} {lines : ℕ} (is : ListedIs text out sheet (Lines lines)) where
+module _ {text out sheet : List ℕ} {lines : ℕ} (is : ListedIs text out sheet (Ok lines)) where
   abbrev a : Arena
   a = arena_of text
 

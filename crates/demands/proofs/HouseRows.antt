@@ -1,6 +1,6 @@
 -- The first demand's rows of a house. Its answers' conditions (house/specs/Answers.antt) are the rows' in other words: 20 and Checking's rows say
 -- whether the house is driven, and where it is, each lane's own rows whether the lane is refused.
-use Rattle.std.specs.Prelude.{ℕ, ◌≡◌, refl, ◌⊎◌, ◌↔◌, List, length, get_or}
+use Rattle.std.specs.Prelude.{ℕ, ◌≡◌, refl, ◌⊎◌, ◌↔◌, List, length, get_or, ⊤, Result, Ok, Err}
 use Rattle.std.proofs.Common.{sym, ◌∙◌}
 use Rattle.std.proofs.Math.Path.{ap}
 use Rattle.std.proofs.Math.Logic.{inl, inr, ⊎_elim}
@@ -11,8 +11,6 @@ use Rattle.refusal.specs.declared.Refusal.TheVariants.{Lanes}
 use Rattle.checking.specs.Answers.{AcceptedIs, RefusedIs}
 use Rattle.checking.specs.AnswersExact.{answer-exactly}
 use Rattle.checking.specs.Checking.{checked}
-use Rattle.checking.specs.declared.Checked.{Checked}
-use Rattle.checking.specs.declared.Checked.TheVariants.{Accepted, Refused as CheckingRefused}
 use Rattle.run.specs.Running.{no_run}
 use Rattle.run.proofs.AnswersExact.{report-refused-exactly}
 use Rattle.run.specs.declared.Run.{Run}
@@ -20,8 +18,6 @@ use Rattle.house.specs.Housing.{HouseIs, lane_after, reporting, singly}
 use Rattle.house.specs.Answers.{AllMove, Drivable, Driven, HouseAnswerIs, HouseRefused as HouseRefusedIs, LaneRefused, LowestRefused, NotDrivable, NotRefused, Reports}
 use Rattle.house.proofs.AnswersExact.{accepted-not-refused, house-exactly}
 use Rattle.house.proofs.HousingLaws.{drivable-or-not, not-both}
-use Rattle.house.specs.declared.Housed.{Housed}
-use Rattle.house.specs.declared.Housed.TheVariants.{Moved, Refused as HouseRefused}
 use Rattle.demands.proofs.RowLaws.{clear-refuses-none}
 use Rattle.demands.proofs.ReportRows.{checking-settled, lane-settled}
 use Rattle.demands.specs.Demand1.{AllClear, Clear, HouseExact, LaneRefusedBy, RefusedBy, checking_rows, house_rows, rows_at}
@@ -31,18 +27,18 @@ module _ (text plate : List ℕ) where
   refused-rows : (x : Refusal) → RefusedIs text plate x ↔ RefusedBy (checking_rows text plate) x
   refused-rows x =
       let by = (checking-settled text plate).exactly x in
-      let is = answer-exactly text plate (CheckingRefused x) in
+      let is = answer-exactly text plate (Err x) in
       (λ h. by.0 (is.1 h), λ h. is.0 (by.1 h))
 
   accepted-clear : AcceptedIs text plate ↔ Clear (checking_rows text plate)
   accepted-clear = (
-    λ is. (checking-settled text plate).taken (λ x q. accepted-not-refused text plate x is ((answer-exactly text plate (CheckingRefused x)).0 q)),
+    λ is. (checking-settled text plate).taken (λ x q. accepted-not-refused text plate x is ((answer-exactly text plate (Err x)).0 q)),
     λ clear. go clear (checked text plate) refl,
   )
     where
-      go : Clear (checking_rows text plate) → (c : Checked) → checked text plate ≡ c → AcceptedIs text plate
-      go clear Accepted e = (answer-exactly text plate Accepted).0 e
-      go clear (CheckingRefused x) e = absurd (clear-refuses-none (checking_rows text plate) clear x (((checking-settled text plate).exactly x).0 e))
+      go : Clear (checking_rows text plate) → (c : Result ⊤ Refusal) → checked text plate ≡ c → AcceptedIs text plate
+      go clear (Ok _) e = (answer-exactly text plate (Ok tt)).0 e
+      go clear (Err x) e = absurd (clear-refuses-none (checking_rows text plate) clear x (((checking-settled text plate).exactly x).0 e))
 
 module _ (runs : List Run) (reports text plate : List ℕ) where
   -- the house's rows
@@ -121,16 +117,16 @@ module _ (runs : List Run) (reports text plate : List ℕ) where
         record { driven = driven; free = λ lane l. (free-clear driven.accepted lane).1 (w.lanes lane l); counts = e },
   )
 
-  pub house-exact : {after : List Run} {r : Housed} → HouseIs runs reports text plate after r → HouseExact runs after reports text plate r
+  pub house-exact : {after : List Run} {r : Result ℕ (ℕ × Refusal)} → HouseIs runs reports text plate after r → HouseExact runs after reports text plate r
   unfolding lane_after
   house-exact {after} {r} is =
       record {
-        exactly = λ lane x. (λ e. (refused-by-rows lane x).0 ((answered (HouseRefused lane x)).0 e), λ h. (answered (HouseRefused lane x)).1 ((refused-by-rows lane x).1 h));
-        taken = λ moved. (λ e. (moved-by-rows moved).0 ((answered (Moved moved)).0 e), λ h. (answered (Moved moved)).1 ((moved-by-rows moved).1 h));
+        exactly = λ lane x. (λ e. (refused-by-rows lane x).0 ((answered (Err (lane, x))).0 e), λ h. (answered (Err (lane, x))).1 ((refused-by-rows lane x).1 h));
+        taken = λ moved. (λ e. (moved-by-rows moved).0 ((answered (Ok moved)).0 e), λ h. (answered (Ok moved)).1 ((moved-by-rows moved).1 h));
         unchanged = λ lane x e.
             ext_get_or no_run after runs is.count
-            (λ i l. is.records i ∙ ap (λ (a : Housed). lane_after (singly text plate) runs reports a i) e);
+            (λ i l. is.records i ∙ ap (λ (a : Result ℕ (ℕ × Refusal)). lane_after (singly text plate) runs reports a i) e);
       }
     where
-      answered : (a : Housed) → (r ≡ a) ↔ HouseAnswerIs runs reports text plate a
+      answered : (a : Result ℕ (ℕ × Refusal)) → (r ≡ a) ↔ HouseAnswerIs runs reports text plate a
       answered a = (λ e. (house-exactly runs reports text plate a).0 (sym is.answer ∙ e), λ h. is.answer ∙ (house-exactly runs reports text plate a).1 h)

@@ -1,5 +1,5 @@
 -- The proof of what is said of positions of rest: each sentence is that of R in a definition below, carried to the jobs by their own theorems.
-use Rattle.std.specs.Prelude.{ℕ, ◌≡◌, refl, List}
+use Rattle.std.specs.Prelude.{ℕ, ◌≡◌, refl, List, Ok}
 use Rattle.std.proofs.Common.{sym, subst, ◌∙◌, ⊎_elim}
 use Rattle.rows.specs.Numbers.{row_value}
 use Rattle.game.specs.Value.{Value}
@@ -19,7 +19,6 @@ use Rattle.run.proofs.AnswersExact.{report-exactly}
 use Rattle.run.specs.Running.{reported}
 use Rattle.run.specs.declared.Run.{Run}
 use Rattle.run.specs.declared.Advice.{Advice}
-use Rattle.run.specs.declared.Answer.TheVariants.{Taken}
 use Rattle.demands.specs.SanctionedLaws.{sanctioned-is-accepted}
 use Rattle.demands.proofs.GoodMovesHold.{good-moves}
 use Rattle.demands.specs.Rest.{PositionsOfRest}
@@ -33,9 +32,9 @@ module _ (text : List ℕ) (v : ℕ) (rests : owner_at (arena_of text) v ≡ nob
   says : (choice : Value) (to : ℕ) (k : Kind) → move_kind (arena_of text) choice v to ≡ k → KindSays nobody (arena_of text) choice v to k
   says choice to k e = subst (λ (o : Owner). KindSays o (arena_of text) choice v to k) rests ((kind-exactly (arena_of text) choice v to k).0 e)
 
-  runs-there : (run : Run) (plate : List ℕ) (to : ℕ) (advice : Advice) → run.position ≡ v → (reported run text plate to).answer ≡ Taken advice → Disturbance (arena_of text) v to
+  runs-there : (run : Run) (plate : List ℕ) (to : ℕ) (advice : Advice) → run.position ≡ v → (reported run text plate to).answer ≡ Ok advice → Disturbance (arena_of text) v to
   runs-there run plate to advice at e =
-      let is = (report-exactly run text plate to (reported run text plate to).run (Taken advice)).0 (λ i. record { run = (reported run text plate to).run; answer = e i }) in
+      let is = (report-exactly run text plate to (reported run text plate to).run (Ok advice)).0 (λ i. record { run = (reported run text plate to).run; answer = e i }) in
       ⊎_elim
       (λ m. absurd (says _ to MeantMove (here MeantMove m.0.kind)))
       (λ d. says _ to Disturbed (here Disturbed d.0.kind))

@@ -1,6 +1,8 @@
 -- The laws of the table's rows: a job's tests stand in the order of its rows. Each test tells whether its row's condition holds; where it does
 -- the answer is the row's refusal, and where it does not the rows after it decide.
-use Rattle.std.specs.Prelude.{ℕ, ◌≤◌, ◌<◌, ◌≡◌, refl, ◌⊎◌, ◌↔◌, Bool, true, false, ◌&&◌, List, [], ◌∷◌, length, leb, ltb, eqb, T}
+use Rattle.std.specs.Prelude.{ℕ, ◌≤◌, ◌<◌, ◌≡◌, refl, ◌⊎◌, ◌↔◌, Bool, true, false, ◌&&◌, List, [], ◌∷◌, length, leb, ltb, eqb, T, ⊤, Result, Ok, Err}
+use Rattle.verdict.specs.declared.FoundFault.{FoundFault}
+use Rattle.verdict.specs.Verdict.{fault_of}
 use Rattle.std.proofs.Common.{arith, sym, ap, subst, ◌∙◌, ⊎_elim, leb-true, leb-false, ltb-true, ltb-false, eqb-true}
 use Rattle.std.proofs.Math.Logic.{inl, inr}
 use Rattle.std.proofs.lemmas.Bool.{eqb-false}
@@ -19,18 +21,12 @@ use Rattle.chart.specs.Meaning.{arena_of}
 use Rattle.chart.specs.Examined.{examined}
 use Rattle.chart.specs.Exact.{refused-exactly}
 use Rattle.chart.specs.Accepted.{accepted-size}
-use Rattle.chart.specs.declared.Examination.{Examination}
-use Rattle.chart.specs.declared.Examination.TheVariants.{Accepted as Taken, Refused as Turned}
 use Rattle.plate.specs.Form.{BadAt}
 use Rattle.plate.specs.Formed.{form_of}
 use Rattle.plate.specs.Exact.{bad-line-exact}
 use Rattle.plate.specs.Read.{header_in, value_in_plate, choice_in_plate, step_in_plate}
-use Rattle.plate.specs.declared.Form.{Form}
-use Rattle.plate.specs.declared.Form.TheVariants.{Good, Bad}
 use Rattle.verdict.specs.Verdict.{FirstFaultIs}
 use Rattle.verdict.specs.Exact.{first-fault-exactly}
-use Rattle.verdict.specs.declared.Verdict.{Verdict}
-use Rattle.verdict.specs.declared.Verdict.TheVariants.{Sound, Fault as FaultAt}
 use Rattle.checking.specs.Checking.{plate_verdict}
 use Rattle.weighing.specs.Weighing.{legal_row}
 use Rattle.weighing.specs.WeighingLaws.{legal-row-sound, legal-row-complete}
@@ -99,48 +95,48 @@ module _ {A : Type 0} {answer : A} {refused : Refusal → A} (injective : (x y :
   test-row {y} false t turns rest = row-holds (λ z h. turns refl ∙ ap refused (sym h.0)) y (refl, t.1 refl)
 
   -- 1 to 9 and 17
-  pub chart-row : (text : List ℕ) {rest : List Row} → ((r : Misdrawn) → examined text ≡ Turned r → answer ≡ refused (OfChart r))
-      → ((chart : Chart) → examined text ≡ Taken chart → Settled answer refused rest) → Settled answer refused (misdrawn text ∷ rest)
+  pub chart-row : (text : List ℕ) {rest : List Row} → ((r : Misdrawn) → examined text ≡ Err r → answer ≡ refused (OfChart r))
+      → ((chart : Chart) → examined text ≡ Ok chart → Settled answer refused rest) → Settled answer refused (misdrawn text ∷ rest)
   chart-row text {rest} turns takes = go (examined text) refl
     where
-      go : (x : Examination) → examined text ≡ x → Settled answer refused (misdrawn text ∷ rest)
-      go (Turned r) e = row-holds (λ y h. turns h.0 ((refused-exactly text h.0).1 h.2) ∙ ap refused (sym h.1)) (OfChart r) (r, refl, (refused-exactly text r).0 e)
-      go (Taken chart) e = row-fails (λ y h. apart ((refused-exactly text h.0).1 h.2) e) (takes chart e)
+      go : (x : Result Chart Misdrawn) → examined text ≡ x → Settled answer refused (misdrawn text ∷ rest)
+      go (Err r) e = row-holds (λ y h. turns h.0 ((refused-exactly text h.0).1 h.2) ∙ ap refused (sym h.1)) (OfChart r) (r, refl, (refused-exactly text r).0 e)
+      go (Ok chart) e = row-fails (λ y h. apart ((refused-exactly text h.0).1 h.2) e) (takes chart e)
         where
-          apart : {r : Misdrawn} → examined text ≡ Turned r → examined text ≡ Taken chart → ⊥
+          apart : {r : Misdrawn} → examined text ≡ Err r → examined text ≡ Ok chart → ⊥
           apart p q = let z : ◌≡◌ {A = ℕ} 0 1 = cc in omega arith
 
-  module _ (text plate : List ℕ) (chart : Chart) (taken : examined text ≡ Taken chart) {rest : List Row} where
+  module _ (text plate : List ℕ) (chart : Chart) (taken : examined text ≡ Ok chart) {rest : List Row} where
     -- 11
-    pub form-row : ((line : ℕ) → form_of chart.positions plate ≡ Bad line → answer ≡ refused (Plate line))
-        → (form_of chart.positions plate ≡ Good → Settled answer refused rest) → Settled answer refused (malformed text plate ∷ rest)
+    pub form-row : ((line : ℕ) → form_of chart.positions plate ≡ Err line → answer ≡ refused (Plate line))
+        → (form_of chart.positions plate ≡ Ok tt → Settled answer refused rest) → Settled answer refused (malformed text plate ∷ rest)
     form-row turns takes = go (form_of chart.positions plate) refl
       where
-        bad : {line : ℕ} → BadAt (count text) plate line → form_of chart.positions plate ≡ Bad line
+        bad : {line : ℕ} → BadAt (count text) plate line → form_of chart.positions plate ≡ Err line
         bad {line} w = (bad-line-exact chart.positions line plate).1 (subst (λ (n : ℕ). BadAt n plate line) (accepted-size text chart taken) w)
 
-        go : (f : Form) → form_of chart.positions plate ≡ f → Settled answer refused (malformed text plate ∷ rest)
-        go (Bad line) e =
+        go : (f : Result ⊤ ℕ) → form_of chart.positions plate ≡ f → Settled answer refused (malformed text plate ∷ rest)
+        go (Err line) e =
             row-holds (λ y h. turns h.0 (bad h.2) ∙ ap refused (sym h.1)) (Plate line)
             (line, refl, subst (λ (n : ℕ). BadAt n plate line) (sym (accepted-size text chart taken)) ((bad-line-exact chart.positions line plate).0 e))
-        go Good e = row-fails (λ y h. apart (bad h.2) e) (takes e)
+        go (Ok _) e = row-fails (λ y h. apart (bad h.2) e) (takes e)
           where
-            apart : {line : ℕ} → form_of chart.positions plate ≡ Bad line → form_of chart.positions plate ≡ Good → ⊥
+            apart : {line : ℕ} → form_of chart.positions plate ≡ Err line → form_of chart.positions plate ≡ Ok tt → ⊥
             apart p q = let z : ◌≡◌ {A = ℕ} 0 1 = cc in omega arith
 
   -- 14
-  pub fault-row : (text plate : List ℕ) {rest : List Row} → ((v c : ℕ) → plate_verdict (arena_of text) plate ≡ FaultAt v c → answer ≡ refused (Fault v c))
-      → (plate_verdict (arena_of text) plate ≡ Sound → Settled answer refused rest) → Settled answer refused (faulty text plate ∷ rest)
+  pub fault-row : (text plate : List ℕ) {rest : List Row} → ((v c : ℕ) → plate_verdict (arena_of text) plate ≡ Err (fault_of v c) → answer ≡ refused (Fault v c))
+      → (plate_verdict (arena_of text) plate ≡ Ok tt → Settled answer refused rest) → Settled answer refused (faulty text plate ∷ rest)
   fault-row text plate {rest} turns takes = go (plate_verdict (arena_of text) plate) refl
     where
-      first : (v c : ℕ) → (plate_verdict (arena_of text) plate ≡ FaultAt v c) ↔ FirstFaultIs (arena_of text) (value_in_plate plate) (choice_in_plate plate) (step_in_plate plate) (header_in plate) v c
+      first : (v c : ℕ) → (plate_verdict (arena_of text) plate ≡ Err (fault_of v c)) ↔ FirstFaultIs (arena_of text) (value_in_plate plate) (choice_in_plate plate) (step_in_plate plate) (header_in plate) v c
       first v c = first-fault-exactly (arena_of text) (value_in_plate plate) (choice_in_plate plate) (step_in_plate plate) (header_in plate) v c
 
-      go : (r : Verdict) → plate_verdict (arena_of text) plate ≡ r → Settled answer refused (faulty text plate ∷ rest)
-      go (FaultAt v c) e = row-holds (λ y h. turns h.0 h.1 ((first h.0 h.1).1 h.3) ∙ ap refused (sym h.2)) (Fault v c) (v, c, refl, (first v c).0 e)
-      go Sound e = row-fails (λ y h. apart ((first h.0 h.1).1 h.3) e) (takes e)
+      go : (r : Result ⊤ FoundFault) → plate_verdict (arena_of text) plate ≡ r → Settled answer refused (faulty text plate ∷ rest)
+      go (Err f) e = row-holds (λ y h. turns h.0 h.1 ((first h.0 h.1).1 h.3) ∙ ap refused (sym h.2)) (Fault f.position f.condition) (f.position, f.condition, refl, (first f.position f.condition).0 e)
+      go (Ok _) e = row-fails (λ y h. apart ((first h.0 h.1).1 h.3) e) (takes e)
         where
-          apart : {v c : ℕ} → plate_verdict (arena_of text) plate ≡ FaultAt v c → plate_verdict (arena_of text) plate ≡ Sound → ⊥
+          apart : {v c : ℕ} → plate_verdict (arena_of text) plate ≡ Err (fault_of v c) → plate_verdict (arena_of text) plate ≡ Ok tt → ⊥
           apart p q = let z : ◌≡◌ {A = ℕ} 0 1 = cc in omega arith
 
 -- where no condition holds, nothing is refused

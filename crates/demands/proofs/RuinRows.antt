@@ -1,6 +1,6 @@
 -- The first demand's rows of the way to ruin: 19 by the worth of the controller that makes the choices, and 10 for the buffer by the one way
 -- that there is.
-use Rattle.std.specs.Prelude.{ℕ, ◌*◌, ◌<◌, refl, List, [], ◌∷◌, length, leb, ltb}
+use Rattle.std.specs.Prelude.{ℕ, ◌*◌, ◌<◌, refl, List, [], ◌∷◌, length, leb, ltb, Ok, Err}
 use Rattle.std.proofs.Common.{arith, subst, ◌∙◌, leb-true, leb-false, ltb-true}
 use Rattle.std.proofs.Math.Path.{◌≡◌, sym, ap}
 use Rattle.rows.specs.Numbers.{row_value}
@@ -19,10 +19,8 @@ use Rattle.refusal.specs.declared.Refusal.TheVariants.{Short, Ever}
 use Rattle.chart.specs.Meaning.{arena_of}
 use Rattle.chart.specs.Examined.{examined}
 use Rattle.chart.specs.Accepted.{accepted-size, accepted-chartable}
-use Rattle.chart.specs.declared.Examination.TheVariants.{Accepted as Taken}
 use Rattle.weighing.specs.Weighing.{legal_row}
 use Rattle.weighing.specs.WeighingLaws.{legal-row-sound, restricted-rounds-are-worths}
-use Rattle.listing.specs.declared.Listed.TheVariants.{Lines, Refused as ListingRefused}
 use Rattle.ruin.specs.Sheet.{way_sheet}
 use Rattle.ruin.specs.Ruin.{way_count, way_by, ruined_rows, ruined_by, ruined}
 use Rattle.ruin.specs.WayLines.{way-length}
@@ -31,7 +29,7 @@ use Rattle.demands.specs.Demand1.{only, WorthIsEver, ShorterThanWay, ruin_rows}
 use Rattle.demands.proofs.RowLaws.{Settled, Tests, short-test, inside-test, row-holds, row-fails, no_rows, test-row, chart-row, choice_test}
 
 -- 19, and 10 for the way to ruin: by the rounds' worth and the one way that there is
-module _ (text choices : List ℕ) (chart : Chart) (e : examined text ≡ Taken chart) (legal : Legal (arena_of text) (row_value choices)) (v : ℕ) (inside : v < size (arena_of text)) where
+module _ (text choices : List ℕ) (chart : Chart) (e : examined text ≡ Ok chart) (legal : Legal (arena_of text) (row_value choices)) (v : ℕ) (inside : v < size (arena_of text)) where
   abbrev chosen : Controller (arena_of text)
   chosen = positional (arena_of text) (row_value choices) legal
 
@@ -65,22 +63,22 @@ module _ (text choices : List ℕ) (chart : Chart) (e : examined text ≡ Taken 
       lines = way-length v one.trail ∙ ap (λ (x : ℕ). x * 12) (sym (way-counted held v (moves one.trail) one.left))
 
 -- the last two rows
-module _ (text choices : List ℕ) (chart : Chart) (e : examined text ≡ Taken chart) (legal : Legal (arena_of text) (row_value choices)) (v : ℕ) (inside : v < size (arena_of text)) (out : List ℕ) where
+module _ (text choices : List ℕ) (chart : Chart) (e : examined text ≡ Ok chart) (legal : Legal (arena_of text) (row_value choices)) (v : ℕ) (inside : v < size (arena_of text)) (out : List ℕ) where
   abbrev worth : Value
   worth = round_value (restricted (arena_of text) (row_value choices)) v
 
   abbrev lines : ℕ
   lines = way_count (restricted (arena_of text) (row_value choices)) v
 
-  last-rows : (x : Value) → worth ≡ x → Settled (way_by x lines (length out)) ListingRefused (only Ever (WorthIsEver text choices v) ∷ only Short (ShorterThanWay text choices v out) ∷ [])
+  last-rows : (x : Value) → worth ≡ x → Settled (way_by x lines (length out)) Err (only Ever (WorthIsEver text choices v) ∷ only Short (ShorterThanWay text choices v out) ∷ [])
   unfolding way_by
-  last-rows ever w = row-holds (λ x y e. cc) (λ y h. ap ListingRefused (sym h.0)) Ever (refl, ever-holds text choices chart e legal v inside w)
+  last-rows ever w = row-holds (λ x y e. cc) (λ y h. ap Err (sym h.0)) Ever (refl, ever-holds text choices chart e legal v inside w)
   last-rows (fin k) w =
       row-fails (λ x y e. cc) (λ y h. ever-fails text choices chart e legal v inside w h.1)
       (test-row (λ x y e. cc) (leb (lines * 12) (length out)) (way_test text choices chart e legal v inside out w) (λ b. rw b)
-      (λ b. no_rows (λ x y e. cc) (λ x q. let z : Lines lines ≡ ListingRefused x = sym (rw b) ∙ q in let y : ◌≡◌ {A = ℕ} 0 1 = cc in omega arith)))
+      (λ b. no_rows (λ x y e. cc) (λ x q. let z : Ok lines ≡ Err x = sym (rw b) ∙ q in let y : ◌≡◌ {A = ℕ} 0 1 = cc in omega arith)))
 
-pub ruin-settled : (text choices : List ℕ) (v : ℕ) (out : List ℕ) → Settled (ruined text choices v (length out)) ListingRefused (ruin_rows text choices v out)
+pub ruin-settled : (text choices : List ℕ) (v : ℕ) (out : List ℕ) → Settled (ruined text choices v (length out)) Err (ruin_rows text choices v out)
 unfolding ruined ruined_by ruined_rows
 ruin-settled text choices v out =
     chart-row (λ x y e. cc) text (λ r e. rw e)

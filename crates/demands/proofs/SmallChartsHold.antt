@@ -1,6 +1,6 @@
 -- Every small chart: the text of an index is that of its arena, which is accepted and means it (chart/specs/Faithful.antt), and each small arena has
 -- one index (numbering/proofs/EverySmall.antt).
-use Rattle.std.specs.Prelude.{ℕ, ◌≡◌, refl, List, length, take, drop}
+use Rattle.std.specs.Prelude.{ℕ, ◌≡◌, refl, List, length, take, drop, Ok}
 use Rattle.std.proofs.Common.{sym, ap, ◌∙◌, subst, subst₂, take_at}
 use Rattle.game.specs.Arena.{Arena, size}
 use Rattle.chart.specs.Text.{positions_of, moves_of}
@@ -10,7 +10,6 @@ use Rattle.chart.specs.Exact.{accepted-exactly}
 use Rattle.chart.specs.Blanks.{WithoutBlanks}
 use Rattle.chart.specs.BlankLaws.{filling-without-blanks}
 use Rattle.chart.specs.Faithful.{text-faithful, arena-faithful}
-use Rattle.chart.specs.declared.Examination.TheVariants.{Accepted}
 use Rattle.numbering.specs.Numbering.{index_of, Small}
 use Rattle.numbering.specs.Squares.{small_arena}
 use Rattle.numbering.proofs.EverySmall.{counts, chart-of-index, index-of-chart}
@@ -18,7 +17,6 @@ use Rattle.numbering.proofs.OrderLaws.{rises-in-order}
 use Rattle.generating.specs.Generating.{small_text}
 use Rattle.generating.specs.GeneratingLaws.{Taken, taken-length, length_taken}
 use Rattle.indexing.specs.IndexingLaws.{small-indexed}
-use Rattle.indexing.specs.declared.Indexed.TheVariants.{Index}
 use Rattle.demands.specs.SmallCharts.{SmallChart, Call, written, IsChartOf, IsIndexOf, SmallCharts}
 
 -- a call's index is one, and it wrote that index's text
@@ -33,7 +31,7 @@ call-text n i call =
 
 -- the text of a small arena is such a chart, and has its index
 module _ (a : Arena) (small : Small a) where
-  faithful : (examined (chart_text a) ≡ Accepted (record { positions = size a; moves = length a.moves })) × (arena_of (chart_text a) ≡ a)
+  faithful : (examined (chart_text a) ≡ Ok (record { positions = size a; moves = length a.moves })) × (arena_of (chart_text a) ≡ a)
   faithful = arena-faithful a small.chartable
 
   text_of : IsChartOf (size a) (index_of a) (chart_text a)
@@ -42,7 +40,7 @@ module _ (a : Arena) (small : Small a) where
     without-blanks = subst WithoutBlanks (sym (text-faithful (chart_text a) _ faithful.0) ∙ ap chart_text faithful.1) (filling-without-blanks (chart_text a));
     positions = ap size faithful.1;
     index = ap index_of faithful.1;
-    answered = small-indexed (chart_text a) faithful.0 (subst Small (sym faithful.1) small) ∙ ap (λ (x : Arena). Index (index_of x)) faithful.1;
+    answered = small-indexed (chart_text a) faithful.0 (subst Small (sym faithful.1) small) ∙ ap (λ (x : Arena). Ok (index_of x)) faithful.1;
   }
 
 -- what is written is such a chart
@@ -57,7 +55,7 @@ generates n i call =
 indexes : (text : List ℕ) → SmallChart text → (i : ℕ) × IsIndexOf text i
 indexes text chart =
     let a = arena_of text in
-    let taken : examined text ≡ Accepted (record { positions = positions_of text; moves = moves_of text }) = (accepted-exactly text _).1 (chart.accepted, refl) in
+    let taken : examined text ≡ Ok (record { positions = positions_of text; moves = moves_of text }) = (accepted-exactly text _).1 (chart.accepted, refl) in
     let index = index-of-chart a chart.small in (
       index_of a,
       record {

@@ -1,5 +1,5 @@
 -- The first demand's rows of Generating and Indexing: each test tells whether its row's condition holds.
-use Rattle.std.specs.Prelude.{ℕ, ◌<◌, ◌≡◌, refl, Bool, true, false, ◌&&◌, not, List, length, leb, ltb}
+use Rattle.std.specs.Prelude.{ℕ, ◌<◌, ◌≡◌, refl, Bool, true, false, ◌&&◌, not, List, length, leb, ltb, Err}
 use Rattle.std.proofs.Common.{arith, sym, ap, ap₂, ◌∙◌, true≢false, leb-true, leb-false}
 use Rattle.std.proofs.lemmas.Bool.{false≢true}
 use Rattle.search.specs.Below.{some_below, some-hit, some-found}
@@ -8,11 +8,9 @@ use Rattle.chart.specs.Meaning.{arena_of, chart_text}
 use Rattle.numbering.specs.Numbering.{chart_count}
 use Rattle.numbering.specs.Squares.{small_arena}
 use Rattle.numbering.proofs.EverySmall.{chart-of-index, index-of-chart}
-use Rattle.writing.specs.declared.Written.TheVariants.{Refused as WritingRefused}
 use Rattle.generating.specs.Generating.{is_index, small_text, generated}
 use Rattle.generating.specs.GeneratingLaws.{index-bounds}
 use Rattle.indexing.specs.Indexing.{is_rest, is_small, indexed_arena, indexed_by, indexed}
-use Rattle.indexing.specs.declared.Indexed.TheVariants.{Refused as IndexingRefused}
 use Rattle.demands.specs.Demand1.{NoSuchIndex, OfAnotherSort, ShorterThanChart, generating_rows, indexing_rows}
 use Rattle.demands.proofs.RowLaws.{Settled, Tests, both-test, inside-test, no_rows, test-row, chart-row}
 
@@ -34,7 +32,7 @@ chart-test n i out e = (
   λ b. let w = index-bounds n i e in let c = chart-of-index n i w.0 w.1 w.2 in (small_arena n i, c.0, c.1.0, c.1.1, leb-false (length (chart_text (small_arena n i))) (length out) b),
 )
 
-pub generating-settled : (n i : ℕ) (out : List ℕ) → Settled (generated n i (length out)) WritingRefused (generating_rows n i out)
+pub generating-settled : (n i : ℕ) (out : List ℕ) → Settled (generated n i (length out)) Err (generating_rows n i out)
 unfolding generated
 generating-settled n i out =
     test-row (λ x y e. cc) (is_index n i) (index-test n i) (λ b. rw b)
@@ -63,7 +61,7 @@ sort-test : (text : List ℕ) → Tests (is_small (arena_of text)) (OfAnotherSor
 unfolding is_small
 sort-test text = both-test _ _ (at-most-test (size (arena_of text)) 3) (rest-test (arena_of text))
 
-pub indexing-settled : (text : List ℕ) → Settled (indexed text) IndexingRefused (indexing_rows text)
+pub indexing-settled : (text : List ℕ) → Settled (indexed text) Err (indexing_rows text)
 unfolding indexed indexed_by indexed_arena
 indexing-settled text =
     chart-row (λ x y e. cc) text (λ r e. rw e)

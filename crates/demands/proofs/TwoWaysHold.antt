@@ -1,6 +1,6 @@
 -- The two ways agree, by their contracts alone: the answer is computed from the chart and the rows' lengths, the rows' numbers are those of
 -- the arena, and so are the bytes that Writing leaves.
-use Rattle.std.specs.Prelude.{ℕ, ◌≡◌, refl, List, length}
+use Rattle.std.specs.Prelude.{ℕ, ◌≡◌, refl, List, length, Ok}
 use Rattle.std.proofs.Common.{sym, ◌∙◌}
 use borrow.Author.Tests.{le-leb}
 use Rattle.rows.specs.declared.Chart.{Chart}
@@ -12,10 +12,8 @@ use Rattle.chart.specs.Meaning.{arena_of}
 use Rattle.chart.specs.Examined.{examined}
 use Rattle.chart.specs.Exact.{accepted-exactly}
 use Rattle.chart.specs.Accepted.{accepted-size, accepted-chartable}
-use Rattle.chart.specs.declared.Examination.TheVariants.{Accepted}
 use Rattle.valuing.specs.Valuing.{valued, valued_by}
 use Rattle.valuing.specs.ValuedMeansHold.{Took, valuing-took}
-use Rattle.valuing.specs.declared.Valued.TheVariants.{Rounds}
 use Rattle.writing.specs.Writing.{plate_of}
 use Rattle.writing.specs.WritingLaws.{plate-of-rows}
 use Rattle.demands.specs.SanctionedLaws.{written-plate}
@@ -23,14 +21,14 @@ use Rattle.demands.specs.TwoWays.{Call, Room, plate_of_rows, SameRowsAndPlate, T
 
 module _ {text : List ℕ} (call : Call text) where
   -- an accepted chart and rows with room: the rounds are answered
-  answers-rounds : (chart : Chart) → examined text ≡ Accepted chart → Room call
-      → call.answer ≡ Rounds (pair_count (round_value (arena_of text)) (round_step (arena_of text)) (size (arena_of text)))
+  answers-rounds : (chart : Chart) → examined text ≡ Ok chart → Room call
+      → call.answer ≡ Ok (pair_count (round_value (arena_of text)) (round_step (arena_of text)) (size (arena_of text)))
   unfolding valued valued_by
   answers-rounds chart e room =
       call.ensured.answer
       ∙ rw (e, ← accepted-size text chart e, le-leb _ _ room.value, le-leb _ _ room.choice, le-leb _ _ room.step)
 
-  module _ {k : ℕ} (answered : call.answer ≡ Rounds k) where
+  module _ {k : ℕ} (answered : call.answer ≡ Ok k) where
     took : Took text k
     took = valuing-took text (length call.values) (length call.choices) (length call.steps) k (sym answered ∙ call.ensured.answer)
 
@@ -39,7 +37,7 @@ module _ {text : List ℕ} (call : Call text) where
         let fit = accepted-chartable text took.chart took.taken in
         plate-of-rows fit.well-formed fit.few-positions (call.ensured.taken k answered)
 
-module _ {text : List ℕ} (filed plain : Call text) {j k : ℕ} (filed-answered : filed.answer ≡ Rounds j) (plain-answered : plain.answer ≡ Rounds k) where
+module _ {text : List ℕ} (filed plain : Call text) {j k : ℕ} (filed-answered : filed.answer ≡ Ok j) (plain-answered : plain.answer ≡ Ok k) where
   same-rows-and-plate : SameRowsAndPlate filed plain j k
   same-rows-and-plate =
       let p = filed.ensured.taken j filed-answered in

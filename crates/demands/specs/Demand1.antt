@@ -3,7 +3,8 @@
 -- by number as far as the job has them", with 18 between 14 and 15 (document 02, order 5), 19 after 13 (order 6), 20 before the chart's own
 -- (order 7) and 21 before 10 (order 9). Each job has its rows of the table in one list, a house one for the house and one for each lane. That nothing makes a job stop,
 -- run on or read beyond its input is what every function of the library is proved for.
-use Rattle.std.specs.Prelude.{ℕ, ◌+◌, ◌*◌, ◌≤◌, ◌<◌, ◌≡◌, ◌⊎◌, ◌↔◌, List, [], ◌∷◌, length, get_or}
+use Rattle.std.specs.Prelude.{ℕ, ◌+◌, ◌*◌, ◌≤◌, ◌<◌, ◌≡◌, ◌⊎◌, ◌↔◌, List, [], ◌∷◌, length, get_or, ⊤, Option, Result, Ok, Err}
+use Rattle.comparing.specs.declared.Difference.{Difference}
 use Rattle.search.specs.Below.{count_below}
 use Rattle.rows.specs.Numbers.{row_value, number_of}
 use Rattle.game.specs.Arena.{Arena, nobody, size, owner_at}
@@ -24,43 +25,24 @@ use Rattle.moves.specs.Moves.{KindSays}
 use Rattle.moves.specs.declared.Kind.{Kind}
 use Rattle.moves.specs.declared.Kind.TheVariants.{Disturbance, Neither}
 use Rattle.valuing.specs.Valuing.{ValuedIs}
-use Rattle.valuing.specs.declared.Valued.{Valued}
-use Rattle.valuing.specs.declared.Valued.TheVariants.{Refused as ValuingRefused}
 use Rattle.writing.specs.Writing.{WrittenIs}
-use Rattle.writing.specs.declared.Written.{Written}
-use Rattle.writing.specs.declared.Written.TheVariants.{Refused as WritingRefused}
 use Rattle.reading.specs.Reading.{ReadingIs}
-use Rattle.reading.specs.declared.Reading.{Reading}
-use Rattle.reading.specs.declared.Reading.TheVariants.{Refused as ReadingRefused}
 use Rattle.checking.specs.Checking.{checked}
-use Rattle.checking.specs.declared.Checked.{Checked}
-use Rattle.checking.specs.declared.Checked.TheVariants.{Refused as CheckingRefused}
 use Rattle.weighing.specs.Weighing.{WeighedIs}
-use Rattle.weighing.specs.declared.Weighed.{Weighed}
-use Rattle.weighing.specs.declared.Weighed.TheVariants.{Refused as WeighingRefused}
 use Rattle.listing.specs.Sheet.{SheetOf}
 use Rattle.listing.specs.Listing.{ListedIs}
-use Rattle.listing.specs.declared.Listed.{Listed}
-use Rattle.listing.specs.declared.Listed.TheVariants.{Refused as ListingRefused}
 use Rattle.ruin.specs.Sheet.{way_sheet}
 use Rattle.ruin.specs.Ruin.{RuinedIs}
 use Rattle.generating.specs.Generating.{GeneratedIs}
 use Rattle.indexing.specs.Indexing.{indexed}
-use Rattle.indexing.specs.declared.Indexed.{Indexed}
-use Rattle.indexing.specs.declared.Indexed.TheVariants.{Refused as IndexingRefused}
 use Rattle.comparing.specs.Compared.{ComparedIs}
-use Rattle.comparing.specs.declared.Compared.{Compared}
-use Rattle.comparing.specs.declared.Compared.TheVariants.{Refused as ComparingRefused}
 use Rattle.run.specs.Running.{no_run, started, reported}
 use Rattle.run.specs.declared.Run.{Run}
-use Rattle.run.specs.declared.Started.{Started}
-use Rattle.run.specs.declared.Started.TheVariants.{Refused as StartRefused}
 use Rattle.run.specs.declared.Reported.{Reported}
-use Rattle.run.specs.declared.Answer.TheVariants.{Refused as ReportRefused}
 use Rattle.house.specs.Housing.{HouseIs, reporting}
+use Rattle.run.specs.declared.Advice.{Advice}
+use Rattle.rows.specs.declared.FirstLine.{FirstLine}
 use Rattle.house.specs.Answers.{NotDrivable, Reports}
-use Rattle.house.specs.declared.Housed.{Housed}
-use Rattle.house.specs.declared.Housed.TheVariants.{Moved, Refused as HouseRefused}
 
 -- The table
 
@@ -251,33 +233,33 @@ pub record AllClear (runs : List Run) (reports text plate : List ℕ) : Type 0 w
 
 -- the same of a house: its own refusals are answered at lane 0, and a count, "the count of lanes moved", is answered just where all is clear;
 -- after a refusal "no record changes"
-pub record HouseExact (runs after : List Run) (reports text plate : List ℕ) (answer : Housed) : Type 0 where
-  pub exactly : (lane : ℕ) (x : Refusal) → (answer ≡ HouseRefused lane x)
+pub record HouseExact (runs after : List Run) (reports text plate : List ℕ) (answer : Result ℕ (ℕ × Refusal)) : Type 0 where
+  pub exactly : (lane : ℕ) (x : Refusal) → (answer ≡ Err (lane, x))
       ↔ (((lane ≡ 0) × RefusedBy (house_rows runs reports text plate) x) ⊎ LaneRefusedBy runs reports text plate lane x)
-  pub taken : (moved : ℕ) → (answer ≡ Moved moved) ↔ (AllClear runs reports text plate × (moved ≡ count_below (reporting reports) (length runs)))
-  pub unchanged : (lane : ℕ) (x : Refusal) → answer ≡ HouseRefused lane x → after ≡ runs
+  pub taken : (moved : ℕ) → (answer ≡ Ok moved) ↔ (AllClear runs reports text plate × (moved ≡ count_below (reporting reports) (length runs)))
+  pub unchanged : (lane : ℕ) (x : Refusal) → answer ≡ Err (lane, x) → after ≡ runs
 
 -- of every job, by what it ensures; Checking, Comparing, Indexing and a start are lent nothing that they could change
 pub record Demand1 : Type 0 where
-  pub valuing : {text values values' choices choices' steps steps' : List ℕ} {r : Valued} → ValuedIs text values values' choices choices' steps steps' r
-      → Exact r ValuingRefused (valuing_rows text values choices steps) ((values' ≡ values) × (choices' ≡ choices) × (steps' ≡ steps))
-  pub writing : {text out out' : List ℕ} {r : Written} → WrittenIs text out out' r → Exact r WritingRefused (writing_rows text out) (out' ≡ out)
-  pub reading : {text plate values values' choices choices' steps steps' : List ℕ} {r : Reading} → ReadingIs text plate values values' choices choices' steps steps' r
-      → Exact r ReadingRefused (reading_rows text plate values choices steps) ((values' ≡ values) × (choices' ≡ choices) × (steps' ≡ steps))
-  pub checking : {text plate : List ℕ} {r : Checked} → r ≡ checked text plate → Exact r CheckingRefused (checking_rows text plate) (Unit {0})
-  pub weighing : {text choices worths worths' : List ℕ} {r : Weighed} → WeighedIs text choices worths worths' r
-      → Exact r WeighingRefused (weighing_rows text choices worths) (worths' ≡ worths)
-  pub comparing : {text plate choices : List ℕ} {r : Compared} → ComparedIs text plate choices r → Exact r ComparingRefused (comparing_rows text plate choices) (Unit {0})
-  pub listing : {text out out' : List ℕ} {r : Listed} → ListedIs text out out' r → Exact r ListingRefused (listing_rows text out) (out' ≡ out)
-  pub ruin : {text choices out out' : List ℕ} {position : ℕ} {r : Listed} → RuinedIs text choices position out out' r
-      → Exact r ListingRefused (ruin_rows text choices position out) (out' ≡ out)
-  pub generating : {n i : ℕ} {out out' : List ℕ} {r : Written} → GeneratedIs n i out out' r → Exact r WritingRefused (generating_rows n i out) (out' ≡ out)
-  pub indexing : {text : List ℕ} {r : Indexed} → r ≡ indexed text → Exact r IndexingRefused (indexing_rows text) (Unit {0})
-  pub start : {text plate : List ℕ} {position : ℕ} {r : Started} → r ≡ started text plate position → Exact r StartRefused (start_rows text plate position) (Unit {0})
+  pub valuing : {text values values' choices choices' steps steps' : List ℕ} {r : Result ℕ Refusal} → ValuedIs text values values' choices choices' steps steps' r
+      → Exact r Err (valuing_rows text values choices steps) ((values' ≡ values) × (choices' ≡ choices) × (steps' ≡ steps))
+  pub writing : {text out out' : List ℕ} {r : Result ℕ Refusal} → WrittenIs text out out' r → Exact r Err (writing_rows text out) (out' ≡ out)
+  pub reading : {text plate values values' choices choices' steps steps' : List ℕ} {r : Result FirstLine Refusal} → ReadingIs text plate values values' choices choices' steps steps' r
+      → Exact r Err (reading_rows text plate values choices steps) ((values' ≡ values) × (choices' ≡ choices) × (steps' ≡ steps))
+  pub checking : {text plate : List ℕ} {r : Result ⊤ Refusal} → r ≡ checked text plate → Exact r Err (checking_rows text plate) (Unit {0})
+  pub weighing : {text choices worths worths' : List ℕ} {r : Result ⊤ Refusal} → WeighedIs text choices worths worths' r
+      → Exact r Err (weighing_rows text choices worths) (worths' ≡ worths)
+  pub comparing : {text plate choices : List ℕ} {r : Result (Option Difference) Refusal} → ComparedIs text plate choices r → Exact r Err (comparing_rows text plate choices) (Unit {0})
+  pub listing : {text out out' : List ℕ} {r : Result ℕ Refusal} → ListedIs text out out' r → Exact r Err (listing_rows text out) (out' ≡ out)
+  pub ruin : {text choices out out' : List ℕ} {position : ℕ} {r : Result ℕ Refusal} → RuinedIs text choices position out out' r
+      → Exact r Err (ruin_rows text choices position out) (out' ≡ out)
+  pub generating : {n i : ℕ} {out out' : List ℕ} {r : Result ℕ Refusal} → GeneratedIs n i out out' r → Exact r Err (generating_rows n i out) (out' ≡ out)
+  pub indexing : {text : List ℕ} {r : Result ℕ Refusal} → r ≡ indexed text → Exact r Err (indexing_rows text) (Unit {0})
+  pub start : {text plate : List ℕ} {position : ℕ} {r : Result (Run × Advice) Refusal} → r ≡ started text plate position → Exact r Err (start_rows text plate position) (Unit {0})
   -- "the run comes back unchanged"
   pub report : {run : Run} {text plate : List ℕ} {to : ℕ} {r : Reported} → r ≡ reported run text plate to
-      → Exact r.answer ReportRefused (report_rows run text plate to) (r.run ≡ run)
-  pub house : {runs after : List Run} {reports text plate : List ℕ} {r : Housed} → HouseIs runs reports text plate after r
+      → Exact r.answer Err (report_rows run text plate to) (r.run ≡ run)
+  pub house : {runs after : List Run} {reports text plate : List ℕ} {r : Result ℕ (ℕ × Refusal)} → HouseIs runs reports text plate after r
       → HouseExact runs after reports text plate r
   -- "no misdrawn sheet is taken": where any of 1 to 9 and 17 applies to a chart, one of them is the first, so the first row above refuses it
   pub misdrawn-is-refused : (text : List ℕ) (s : Misdrawn) → Applies text s → (r : Misdrawn) × First text r

@@ -3,7 +3,7 @@
 -- disturbances, is worth at most as much at each position. The plate's own controller .. is such a one: its row of worths is the row of
 -- the plate's values." The hypotheses are what the jobs' contracts give: a plate that Writing made or Checking accepted, the rows
 -- that Reading gave of it, the row that Weighing gave for a row of choices.
-use Rattle.std.specs.Prelude.{ℕ, ◌≤◌, ◌<◌, ◌≡◌, refl, ◌↔◌, List, get_or}
+use Rattle.std.specs.Prelude.{ℕ, ◌≤◌, ◌<◌, ◌≡◌, refl, ◌↔◌, List, get_or, Ok}
 use Rattle.rows.specs.Numbers.{row_value}
 use Rattle.game.specs.Value.{Value, ◌≼◌}
 use Rattle.game.specs.Arena.{Arena, controller, size, owner_at}
@@ -12,9 +12,7 @@ use Rattle.game.specs.Worth.{WorthIs, AtMost}
 use Rattle.chart.specs.Meaning.{arena_of}
 use Rattle.rows.specs.declared.FirstLine.{FirstLine}
 use Rattle.weighing.specs.Weighing.{weighed, WeighedIs}
-use Rattle.weighing.specs.declared.Weighed.TheVariants.{Done}
 use Rattle.reading.specs.Reading.{ReadingIs}
-use Rattle.reading.specs.declared.Reading.TheVariants.{Rows}
 use Rattle.demands.specs.Sanctioned.{Sanctioned}
 
 -- the plate, as Reading gives it: the row of its values, and that of its choices
@@ -25,12 +23,12 @@ pub record ReadPlate (text plate values choices : List ℕ) : Type 0 where
   pub choices₀ : List ℕ
   pub steps₀ : List ℕ
   pub steps : List ℕ
-  pub read : ReadingIs text plate values₀ values choices₀ choices steps₀ steps (Rows header)
+  pub read : ReadingIs text plate values₀ values choices₀ choices steps₀ steps (Ok header)
 
 -- the controller that makes the given choices, and the row of its worths as Weighing gives it
 pub record Weighing (text given worths : List ℕ) : Type 0 where
   pub worths₀ : List ℕ
-  pub weighed : WeighedIs text given worths₀ worths Done
+  pub weighed : WeighedIs text given worths₀ worths (Ok tt)
 
 abbrev pub controller_of : {text given worths : List ℕ} → Weighing text given worths → Controller (arena_of text)
 controller_of {text} {given} w = positional (arena_of text) (row_value given) (w.weighed.taken refl).legal
@@ -60,5 +58,5 @@ pub record Demand3 (text plate values choices given worths : List ℕ) (p : Read
   -- the same of "every other controller", to the letter
   pub exactly-the-others : RowsAgree text values worths ↔ ((τ : Controller (arena_of text)) → Other (controller_of w) τ → WorthAtMost text worths τ)
   -- the plate's own controller is such a one: Weighing takes its choices, given room for the worths, and answers the values
-  pub own-taken : (room : ℕ) → size (arena_of text) ≤ room → weighed text choices room ≡ Done
+  pub own-taken : (room : ℕ) → size (arena_of text) ≤ room → weighed text choices room ≡ Ok tt
   pub own_row : {own : List ℕ} → Weighing text choices own → RowsAgree text values own

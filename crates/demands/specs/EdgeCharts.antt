@@ -1,6 +1,6 @@
 -- The twelve charts at the edges (document 01, "Charts at the edges"), as texts, with what is expected of each, gathered into one list; and
 -- another list for positions of rest (document 02, order 4).
-use Rattle.std.specs.Prelude.{ℕ, ◌<◌, ◌≡◌, List, [], ◌∷◌, ◌++◌, length, get_or}
+use Rattle.std.specs.Prelude.{ℕ, ◌<◌, ◌≡◌, List, [], ◌∷◌, ◌++◌, length, get_or, Ok, Err}
 use Rattle.game.specs.Value.{Value, fin, ever}
 use Rattle.game.specs.Arena.{size}
 use Rattle.game.specs.Worth.{IsValue}
@@ -12,7 +12,6 @@ use Rattle.chart.specs.Refusals.{Applies, First}
 use Rattle.refusal.specs.Numbers.{misdrawn_number, misdrawn_line}
 use Rattle.rows.specs.declared.Chart.{Chart}
 use Rattle.refusal.specs.declared.Misdrawn.{Misdrawn}
-use Rattle.chart.specs.declared.Examination.TheVariants.{Accepted, Refused}
 use Rattle.valuing.specs.ValuedMeans.{PairIs}
 
 -- what is expected: a refusal, or the plate's columns and the numbers of its first line
@@ -33,7 +32,7 @@ entry column v = get_or column v ever
 pub record PlateHolds (text : List ℕ) (values choices steps : List Value) (rounds : ℕ) (top : Value) (evers : ℕ) : Type 0 where
   pub chart : Chart
   pub drawn : (r : Misdrawn) → Applies text r → ⊥
-  pub taken : examined text ≡ Accepted chart
+  pub taken : examined text ≡ Ok chart
   pub sized : length values ≡ size (arena_of text)
   pub value : (v : ℕ) → v < size (arena_of text) → IsValue (arena_of text) v (entry values v)
   pub choice : (v : ℕ) → v < size (arena_of text) → IsChoice (arena_of text) (entry values) v (entry choices v)
@@ -46,7 +45,7 @@ pub record PlateHolds (text : List ℕ) (values choices steps : List Value) (rou
 pub record RefusalHolds (text : List ℕ) (number line : ℕ) : Type 0 where
   pub refusal : Misdrawn
   pub first : First text refusal
-  pub turned : examined text ≡ Refused refusal
+  pub turned : examined text ≡ Err refusal
   pub number_is : misdrawn_number refusal ≡ number
   pub line-is : misdrawn_line refusal ≡ line
 

@@ -2,7 +2,7 @@
 -- what can be read off the lines (`listed`); then "A positional controller is optimal exactly when all its choices are listed. One with
 -- memory that makes only listed moves is worth the value at every position." Optimal is meant both ways: its worths are the values; no
 -- controller is worth more anywhere.
-use Rattle.std.specs.Prelude.{ℕ, ◌*◌, ◌<◌, ◌≡◌, ◌↔◌, List, length, take, drop}
+use Rattle.std.specs.Prelude.{ℕ, ◌*◌, ◌<◌, ◌≡◌, ◌↔◌, List, length, take, drop, Ok}
 use Rattle.field.specs.declared.Field.TheVariants.{Number}
 use Rattle.game.specs.Value.{Value}
 use Rattle.game.specs.Arena.{Arena, controller, size, owner_at}
@@ -15,7 +15,6 @@ use Rattle.chart.specs.Lines.{Reads}
 use Rattle.plate.specs.Read.{choice_in_plate}
 use Rattle.listing.specs.Sheet.{SheetOf}
 use Rattle.listing.specs.Listing.{ListedIs}
-use Rattle.listing.specs.declared.Listed.TheVariants.{Lines}
 use Rattle.demands.specs.Sanctioned.{Sanctioned}
 
 -- the move from v to w is listed: one of the sheet's lines reads `G`, v, w
@@ -59,4 +58,4 @@ pub record GoodMoves (text out sheet : List ℕ) (lines : ℕ) : Type 0 where
 
 -- the request
 abbrev pub AllTheGoodMoves : Type 0
-AllTheGoodMoves = (text out sheet : List ℕ) (lines : ℕ) → ListedIs text out sheet (Lines lines) → GoodMoves text out sheet lines
+AllTheGoodMoves = (text out sheet : List ℕ) (lines : ℕ) → ListedIs text out sheet (Ok lines) → GoodMoves text out sheet lines

@@ -1,6 +1,6 @@
 -- A plate that Writing made, read: it is of the form and Reading takes it, and the first line's numbers and the rows are what Valuing
 -- gives. So a plate, written and read back, is the same plate.
-use Rattle.std.specs.Prelude.{ℕ, ◌≡◌, refl, true, ◌&&◌, List, length, take, leb}
+use Rattle.std.specs.Prelude.{ℕ, ◌≡◌, refl, true, ◌&&◌, List, length, take, leb, Result, Ok}
 use Rattle.std.proofs.Common.{sym, ap, ◌∙◌, le-leb}
 use Rattle.std.proofs.Math.Path.{subst}
 use Rattle.rows.specs.Numbers.{number_of}
@@ -12,7 +12,6 @@ use Rattle.chart.specs.Meaning.{arena_of}
 use Rattle.chart.specs.Examined.{examined}
 use Rattle.chart.specs.Accepted.{accepted-size, accepted-chartable}
 use Rattle.rows.specs.declared.Chart.{Chart}
-use Rattle.chart.specs.declared.Examination.TheVariants.{Accepted}
 use Rattle.valuing.specs.Valuing.{PlateRows}
 use Rattle.rows.specs.declared.FirstLine.{FirstLine}
 use Rattle.plate.specs.Form.{OfForm}
@@ -21,16 +20,13 @@ use Rattle.plate.specs.Exact.{form-exact}
 use Rattle.plate.specs.RoundTrip.{ReadsAs, set-out-is-of-form, reading-undoes-writing}
 use Rattle.reading.specs.Reading.{answer_to, read_by, reading, ReadingIs}
 use Rattle.reading.specs.ReadingTrip.{reading-took, reading-set-out}
-use Rattle.plate.specs.declared.Form.TheVariants.{Good}
-use Rattle.reading.specs.declared.Reading.{Reading}
-use Rattle.reading.specs.declared.Reading.TheVariants.{Rows}
 use Rattle.writing.specs.Writing.{rounds_first_line, plate_of, WrittenIs}
-use Rattle.writing.specs.declared.Written.TheVariants.{Length}
 use Rattle.writing.specs.Ranges.{arena-in-range}
 use Rattle.demands.specs.SanctionedLaws.{writing-took, written-plate}
+use Rattle.refusal.specs.declared.Refusal.{Refusal}
 use Rattle.demands.specs.Demand2.{SamePlate}
 
-module _ (text : List ℕ) (chart : Chart) (accepted : examined text ≡ Accepted chart) where
+module _ (text : List ℕ) (chart : Chart) (accepted : examined text ≡ Ok chart) where
   -- the plate that Writing makes is of the form, and reads as the rounds and choices
   pub written-is-of-form : OfForm (size (arena_of text)) (plate_of (arena_of text))
   unfolding plate_of
@@ -46,16 +42,16 @@ module _ (text : List ℕ) (chart : Chart) (accepted : examined text ≡ Accepte
 
   -- Reading takes it, given room
   pub written-is-taken : (values choices steps : ℕ) → (leb chart.positions values && (leb chart.positions choices && leb chart.positions steps)) ≡ true →
-      reading text (plate_of (arena_of text)) values choices steps ≡ Rows (rounds_first_line (arena_of text))
+      reading text (plate_of (arena_of text)) values choices steps ≡ Ok (rounds_first_line (arena_of text))
   unfolding reading read_by answer_to
   written-is-taken values choices steps room =
-      let good : form_of chart.positions (plate_of (arena_of text)) ≡ Good =
-      subst (λ (n : ℕ). form_of n (plate_of (arena_of text)) ≡ Good) (accepted-size text chart accepted) ((form-exact (size (arena_of text)) (plate_of (arena_of text))).1 written-is-of-form) in
-      rw (accepted, room, good) (ap Rows written-reads.header)
+      let good : form_of chart.positions (plate_of (arena_of text)) ≡ (Ok tt) =
+      subst (λ (n : ℕ). form_of n (plate_of (arena_of text)) ≡ Ok tt) (accepted-size text chart accepted) ((form-exact (size (arena_of text)) (plate_of (arena_of text))).1 written-is-of-form) in
+      rw (accepted, room, good) (ap Ok written-reads.header)
 
 -- "from a plate that Writing made, they are what Valuing gives"
-pub reading-gives-valuing : (text values values' choices choices' steps steps' : List ℕ) (r : Reading) (h : FirstLine) →
-    ReadingIs text (plate_of (arena_of text)) values values' choices choices' steps steps' r → r ≡ Rows h →
+pub reading-gives-valuing : (text values values' choices choices' steps steps' : List ℕ) (r : Result FirstLine Refusal) (h : FirstLine) →
+    ReadingIs text (plate_of (arena_of text)) values values' choices choices' steps steps' r → r ≡ Ok h →
     (h ≡ rounds_first_line (arena_of text)) × PlateRows (arena_of text) (size (arena_of text)) values values' choices choices' steps steps'
 reading-gives-valuing text values values' choices choices' steps steps' r h is taken =
     let w = reading-took text (plate_of (arena_of text)) (length values) (length choices) (length steps) h (sym is.answer ∙ taken) in
@@ -70,12 +66,12 @@ reading-gives-valuing text values values' choices choices' steps steps' r h is t
     )
 
 -- "A plate, written and read back, is the same plate"
-pub written-and-read-back : {text out out' : List ℕ} {k : ℕ} → WrittenIs text out out' (Length k) → SamePlate text (take k out')
+pub written-and-read-back : {text out out' : List ℕ} {k : ℕ} → WrittenIs text out out' (Ok k) → SamePlate text (take k out')
 written-and-read-back {text} {out} {out'} {k} w =
     let t = writing-took text (length out) k w.answer in
     subst (SamePlate text) (sym (written-plate w)) (same t.chart t.taken)
   where
-    same : (chart : Chart) → examined text ≡ Accepted chart → SamePlate text (plate_of (arena_of text))
+    same : (chart : Chart) → examined text ≡ Ok chart → SamePlate text (plate_of (arena_of text))
     same chart accepted =
         record {
           taken = λ {values} {values'} {choices} {choices'} {steps} is enough-values enough-choices enough-steps.

@@ -1,7 +1,7 @@
 -- Positions of rest (document 02, order 4), said of what the jobs ensure: when an R is "ever", its choice on a plate, the choice that is weighed
 -- there, what a run takes there, and that no good move leaves it. That "Worths and values count plays through R as any others" is the second demand,
 -- which names no owner.
-use Rattle.std.specs.Prelude.{ℕ, ◌<◌, ◌≡◌, false, List}
+use Rattle.std.specs.Prelude.{ℕ, ◌<◌, ◌≡◌, false, List, Ok}
 use Rattle.rows.specs.Numbers.{row_value}
 use Rattle.rows.specs.declared.Chart.{Chart}
 use Rattle.game.specs.Value.{ever}
@@ -9,16 +9,12 @@ use Rattle.game.specs.Arena.{nobody, size, owner_at, unsafe, Disturbance}
 use Rattle.game.specs.Worth.{IsValue}
 use Rattle.chart.specs.Meaning.{arena_of}
 use Rattle.chart.specs.Examined.{examined}
-use Rattle.chart.specs.declared.Examination.TheVariants.{Accepted}
 use Rattle.plate.specs.Read.{choice_in_plate}
 use Rattle.weighing.specs.Weighing.{WeighedIs}
-use Rattle.weighing.specs.declared.Weighed.TheVariants.{Done}
 use Rattle.listing.specs.Listing.{ListedIs}
-use Rattle.listing.specs.declared.Listed.TheVariants.{Lines}
 use Rattle.run.specs.Running.{reported}
 use Rattle.run.specs.declared.Run.{Run}
 use Rattle.run.specs.declared.Advice.{Advice}
-use Rattle.run.specs.declared.Answer.TheVariants.{Taken}
 use Rattle.demands.specs.Sanctioned.{Sanctioned}
 use Rattle.demands.specs.GoodMoves.{OnSheet}
 
@@ -29,12 +25,12 @@ pub record Rest (text : List ℕ) (v : ℕ) : Type 0 where
   -- "its choice is `-`", on every plate that the library writes or accepts
   pub choice : (plate : List ℕ) → Sanctioned text plate → choice_in_plate plate v ≡ ever
   -- "refusal 12 wants 65,535 at R": any other choice there is not weighed
-  pub weighed : {choices worths worths' : List ℕ} → WeighedIs text choices worths worths' Done → row_value choices v ≡ ever
+  pub weighed : {choices worths worths' : List ℕ} → WeighedIs text choices worths worths' (Ok tt) → row_value choices v ≡ ever
   -- "a run at R accepts only disturbances"
-  pub runs : (run : Run) (plate : List ℕ) (to : ℕ) (advice : Advice) → run.position ≡ v → (reported run text plate to).answer ≡ Taken advice → Disturbance (arena_of text) v to
+  pub runs : (run : Run) (plate : List ℕ) (to : ℕ) (advice : Advice) → run.position ≡ v → (reported run text plate to).answer ≡ Ok advice → Disturbance (arena_of text) v to
   -- no line of the good moves' sheet names it as its position
-  pub unlisted : {out sheet : List ℕ} {lines : ℕ} → ListedIs text out sheet (Lines lines) → (w : ℕ) → OnSheet sheet lines v w → ⊥
+  pub unlisted : {out sheet : List ℕ} {lines : ℕ} → ListedIs text out sheet (Ok lines) → (w : ℕ) → OnSheet sheet lines v w → ⊥
 
 -- the request
 abbrev pub PositionsOfRest : Type 0
-PositionsOfRest = (text : List ℕ) (chart : Chart) → examined text ≡ Accepted chart → (v : ℕ) → v < size (arena_of text) → owner_at (arena_of text) v ≡ nobody → Rest text v
+PositionsOfRest = (text : List ℕ) (chart : Chart) → examined text ≡ Ok chart → (v : ℕ) → v < size (arena_of text) → owner_at (arena_of text) v ≡ nobody → Rest text v

@@ -1,7 +1,7 @@
 -- "For every accepted chart both ways give the same rows and the same plate" (document 02, order 8). The two ways are `value_chart`, which
 -- files the moves by target, and `value_plain`, which walks all moves in every round. Each ensures `ValuedIs`, so what is said here of any
 -- two calls of Valuing holds of a call of the one and a call of the other.
-use Rattle.std.specs.Prelude.{ℕ, ◌≤◌, ◌≡◌, List, length, take}
+use Rattle.std.specs.Prelude.{ℕ, ◌≤◌, ◌≡◌, List, length, take, Result, Ok}
 use Rattle.rows.specs.Rows.{RowIs}
 use Rattle.rows.specs.Numbers.{number_at, row_value}
 use Rattle.rows.specs.FirstLine.{first_line_of}
@@ -11,10 +11,8 @@ use Rattle.chart.specs.Meaning.{arena_of}
 use Rattle.chart.specs.Refusals.{Applies}
 use Rattle.plate.specs.Text.{plate_text}
 use Rattle.valuing.specs.Valuing.{ValuedIs}
-use Rattle.valuing.specs.declared.Valued.{Valued}
-use Rattle.valuing.specs.declared.Valued.TheVariants.{Rounds}
+use Rattle.refusal.specs.declared.Refusal.{Refusal}
 use Rattle.writing.specs.Writing.{WrittenIs}
-use Rattle.writing.specs.declared.Written.TheVariants.{Length}
 
 -- a call of Valuing with this chart: the rows as they were lent and as they came back, and the answer
 pub record Call (text : List ℕ) : Type 0 where
@@ -24,7 +22,7 @@ pub record Call (text : List ℕ) : Type 0 where
   pub choices' : List ℕ
   pub steps : List ℕ
   pub steps' : List ℕ
-  pub answer : Valued
+  pub answer : Result ℕ Refusal
   pub ensured : ValuedIs text values values' choices choices' steps steps' answer
 
 -- each lent row has room for the chart's n numbers
@@ -56,14 +54,14 @@ pub record SameRowsAndPlate {text : List ℕ} (filed plain : Call text) (j k : �
   pub step : RowIs filed.steps' (size (arena_of text)) (number_at plain.steps')
   -- "and the same plate", which is the bytes that Writing writes of the chart
   pub plate : plate_of_rows filed ≡ plate_of_rows plain
-  pub written : {out out' : List ℕ} {bytes : ℕ} → WrittenIs text out out' (Length bytes) → take bytes out' ≡ plate_of_rows plain
+  pub written : {out out' : List ℕ} {bytes : ℕ} → WrittenIs text out out' (Ok bytes) → take bytes out' ≡ plate_of_rows plain
 
 pub record SameWays {text : List ℕ} (filed plain : Call text) : Type 0 where
   -- of every text: the same answer, rounds or refusal
   pub answer : EquallyLong filed plain → filed.answer ≡ plain.answer
   -- of an accepted chart: both answer rounds
-  pub taken : ((r : Misdrawn) → Applies text r → ⊥) → Room filed → Room plain → (k : ℕ) × (filed.answer ≡ Rounds k) × (plain.answer ≡ Rounds k)
-  pub same : {j k : ℕ} → filed.answer ≡ Rounds j → plain.answer ≡ Rounds k → SameRowsAndPlate filed plain j k
+  pub taken : ((r : Misdrawn) → Applies text r → ⊥) → Room filed → Room plain → (k : ℕ) × (filed.answer ≡ Ok k) × (plain.answer ≡ Ok k)
+  pub same : {j k : ℕ} → filed.answer ≡ Ok j → plain.answer ≡ Ok k → SameRowsAndPlate filed plain j k
 
 -- the request
 abbrev pub TwoWays : Type 0

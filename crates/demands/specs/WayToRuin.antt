@@ -1,7 +1,7 @@
 -- The shortest way to ruin (document 02, order 6), of the bytes that the job leaves in the lent buffer: they are the lines of "an unsafe play with
 -- fewest disturbances, among those with fewest moves, among those with the lower position at the first difference", of which there is one, and its
 -- cost is the worth of the controller that makes the choices. When there is none is the first demand's row for 19.
-use Rattle.std.specs.Prelude.{ℕ, suc, ◌*◌, ◌≤◌, ◌<◌, ◌≡◌, List, take, drop, T}
+use Rattle.std.specs.Prelude.{ℕ, suc, ◌*◌, ◌≤◌, ◌<◌, ◌≡◌, List, take, drop, T, Ok}
 use Rattle.rows.specs.Numbers.{row_value}
 use Rattle.game.specs.Value.{fin}
 use Rattle.game.specs.Arena.{size, unsafe}
@@ -9,7 +9,6 @@ use Rattle.game.specs.Play.{Trail, Legal, positional, last, cost}
 use Rattle.game.specs.Worth.{WorthIs}
 use Rattle.way.specs.Way.{moves, stands_after, WayToRuin}
 use Rattle.chart.specs.Meaning.{arena_of}
-use Rattle.listing.specs.declared.Listed.TheVariants.{Lines}
 use Rattle.ruin.specs.Sheet.{way_sheet}
 use Rattle.ruin.specs.Ruin.{RuinedIs}
 
@@ -35,4 +34,4 @@ pub record ShortestWay (text choices : List ℕ) (v : ℕ) (out sheet : List ℕ
 
 -- the request
 abbrev pub TheShortestWayToRuin : Type 0
-TheShortestWayToRuin = (text choices : List ℕ) (v : ℕ) (out sheet : List ℕ) (lines : ℕ) → RuinedIs text choices v out sheet (Lines lines) → ShortestWay text choices v out sheet lines
+TheShortestWayToRuin = (text choices : List ℕ) (v : ℕ) (out sheet : List ℕ) (lines : ℕ) → RuinedIs text choices v out sheet (Ok lines) → ShortestWay text choices v out sheet lines

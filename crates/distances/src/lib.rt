@@ -34,10 +34,8 @@ fn begin(n: usize, marks: &[u8], left: &mut [u16], order: &mut [u16]) -> usize
 {
     clear(n, left);
     let mut tail: usize = 0;
-    let mut v: usize = 0;
-    while v < n {
+    for v in 0..n {
         tail = begin_at(v, marks, tail, left, order);
-        v += 1;
     }
     tail
 }

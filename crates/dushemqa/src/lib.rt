@@ -6,14 +6,13 @@ ghost use Rattle.std.specs.Prelude.{◌≡◌};
 ghost use Rattle.checking.specs.Checking.{checked};
 ghost use Rattle.indexing.specs.Indexing.{indexed};
 ghost use Rattle.run.specs.Running.{reported, started};
-ghost use Rattle.answers.specs.Numbers.{checked_numbers, indexed_numbers, reported_numbers, started_numbers};
+ghost use Rattle.answers.specs.Numbers.{count_numbers, refusal_numbers, reported_numbers, started_numbers};
 ghost use Rattle.dushemqa.specs.Exports.{ComparedAs, GeneratedAs, HousedAs, ListedAs, ReadAs, RuinedAs, ValuedAs, WeighedAs, WrittenAs};
 
 use answers::{
-    ComparedNumbers, HouseNumbers, IndexedNumbers, ListedNumbers, ReadingNumbers, Step,
-    ValuedNumbers, WrittenNumbers, checked_numbers, compared_numbers, housed_numbers,
-    indexed_numbers, listed_numbers, reading_numbers, reported_numbers, started_numbers,
-    valued_numbers, weighed_numbers, written_numbers,
+    ComparedNumbers, CountNumbers, HouseNumbers, ReadingNumbers, Step, ValuedNumbers,
+    compared_numbers, count_numbers, housed_numbers, reading_numbers, refusal_numbers,
+    reported_numbers, started_numbers, valued_numbers,
 };
 use checking::check;
 use comparing::compare;
@@ -57,10 +56,10 @@ pub extern "C" fn dushemqa_value_plain(
 
 // Writing.
 #[unsafe(no_mangle)]
-pub extern "C" fn dushemqa_write(text: &[u8], out: &mut [u8]) -> WrittenNumbers
+pub extern "C" fn dushemqa_write(text: &[u8], out: &mut [u8]) -> CountNumbers
     ensures { WrittenAs text.now out.old out.new result }
 {
-    written_numbers(write_plate(text, out))
+    count_numbers(write_plate(text, out))
 }
 
 // Reading.
@@ -80,9 +79,9 @@ pub extern "C" fn dushemqa_read(
 // Checking.
 #[unsafe(no_mangle)]
 pub extern "C" fn dushemqa_check(text: &[u8], plate: &[u8]) -> Numbers
-    ensures { result ≡ checked_numbers (checked text.now plate.now) }
+    ensures { result ≡ refusal_numbers (checked text.now plate.now) }
 {
-    checked_numbers(check(text, plate))
+    refusal_numbers(check(text, plate))
 }
 
 // Weighing.
@@ -90,7 +89,7 @@ pub extern "C" fn dushemqa_check(text: &[u8], plate: &[u8]) -> Numbers
 pub extern "C" fn dushemqa_weigh(text: &[u8], choices: &[u16], worths: &mut [u16]) -> Numbers
     ensures { WeighedAs text.now choices.now worths.old worths.new result }
 {
-    weighed_numbers(weigh_chart(text, choices, worths))
+    refusal_numbers(weigh_chart(text, choices, worths))
 }
 
 // Comparing.
@@ -103,10 +102,10 @@ pub extern "C" fn dushemqa_compare(text: &[u8], plate: &[u8], choices: &[u16]) -
 
 // Listing.
 #[unsafe(no_mangle)]
-pub extern "C" fn dushemqa_good_moves(text: &[u8], sheet: &mut [u8]) -> ListedNumbers
+pub extern "C" fn dushemqa_good_moves(text: &[u8], sheet: &mut [u8]) -> CountNumbers
     ensures { ListedAs text.now sheet.old sheet.new result }
 {
-    listed_numbers(list_good_moves(text, sheet))
+    count_numbers(list_good_moves(text, sheet))
 }
 
 // The way to ruin.
@@ -116,10 +115,10 @@ pub extern "C" fn dushemqa_ruin(
     choices: &[u16],
     position: usize,
     sheet: &mut [u8],
-) -> ListedNumbers
+) -> CountNumbers
     ensures { RuinedAs text.now choices.now position sheet.old sheet.new result }
 {
-    listed_numbers(list_way_to_ruin(text, choices, position, sheet))
+    count_numbers(list_way_to_ruin(text, choices, position, sheet))
 }
 
 // Generating.
@@ -128,18 +127,18 @@ pub extern "C" fn dushemqa_small_chart(
     positions: usize,
     index: usize,
     chart: &mut [u8],
-) -> WrittenNumbers
+) -> CountNumbers
     ensures { GeneratedAs positions index chart.old chart.new result }
 {
-    written_numbers(write_small_chart(positions, index, chart))
+    count_numbers(write_small_chart(positions, index, chart))
 }
 
 // Indexing.
 #[unsafe(no_mangle)]
-pub extern "C" fn dushemqa_small_index(text: &[u8]) -> IndexedNumbers
-    ensures { result ≡ indexed_numbers (indexed text.now) }
+pub extern "C" fn dushemqa_small_index(text: &[u8]) -> CountNumbers
+    ensures { result ≡ count_numbers (indexed text.now) }
 {
-    indexed_numbers(index_small_chart(text))
+    count_numbers(index_small_chart(text))
 }
 
 // Start.

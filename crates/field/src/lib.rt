@@ -108,10 +108,7 @@ fn digits(a: u8, b: u8, c: u8, d: u8, e: u8) -> Field
 fn digit(b: u8) -> bool
     ensures { result ≡ is_digit b }
 {
-    if b < b'0' {
-        return false;
-    }
-    b <= b'9'
+    b.is_ascii_digit()
 }
 
 // What a digit is worth.

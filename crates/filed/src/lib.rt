@@ -2,8 +2,7 @@
 // placed.
 #![tactic(auto)]
 
-ghost use Rattle.std.specs.Prelude.{◌≡◌, ℕ, ◌+◌, ◌*◌, ◌<◌, ◌≤◌, length, get_or, eqb};
-ghost use Rattle.search.specs.Below.{bit};
+ghost use Rattle.std.specs.Prelude.{ℕ, ◌+◌, ◌*◌, ◌<◌, ◌≤◌, length, get_or, eqb};
 ghost use Rattle.rows.specs.Rows.{ChartRows, RowIs};
 ghost use Rattle.rows.specs.Numbers.{number_at};
 ghost use Rattle.solver.specs.Solving.{Solved};
@@ -36,14 +35,14 @@ pub fn solve_filed(
     ensures { Solved n m owners.now marks.now costs.now froms.now tos.now values.old steps.old values.new steps.new }
 {
     if m <= FEW {
-        solve_few(n, m, owners, marks, costs, froms, tos, values, steps);
+        solve_up_to::<FEW>(n, m, owners, marks, costs, froms, tos, values, steps);
     } else {
-        solve_many(n, m, owners, marks, costs, froms, tos, values, steps);
+        solve_up_to::<{ Chart::MOVES }>(n, m, owners, marks, costs, froms, tos, values, steps);
     }
 }
 
-// The same of a chart with few moves, and of any: only the length of the rows for codes and file differs.
-fn solve_few(
+// The same, with rows for codes and file that have room for N moves.
+fn solve_up_to<const N: usize>(
     n: usize,
     m: usize,
     owners: &[u8],
@@ -55,42 +54,11 @@ fn solve_few(
     steps: &mut [u16],
 )
     requires chart_rows { ChartRows n m owners.now marks.now costs.now froms.now tos.now × (n ≤ length values.old) × (n ≤ length steps.old) }
-    requires m_bound { m ≤ 512 }
+    requires m_bound { (m ≤ N) × (N ≤ 4096) }
     ensures { Solved n m owners.now marks.now costs.now froms.now tos.now values.old steps.old values.new steps.new }
 {
-    let mut codes = [0u16; FEW];
-    let mut entries = [0u16; FEW];
-    solve_in(
-        n,
-        m,
-        owners,
-        marks,
-        costs,
-        froms,
-        tos,
-        &mut codes,
-        &mut entries,
-        values,
-        steps,
-    );
-}
-
-fn solve_many(
-    n: usize,
-    m: usize,
-    owners: &[u8],
-    marks: &[u8],
-    costs: &[u8],
-    froms: &[u16],
-    tos: &[u16],
-    values: &mut [u16],
-    steps: &mut [u16],
-)
-    requires { ChartRows n m owners.now marks.now costs.now froms.now tos.now × (n ≤ length values.old) × (n ≤ length steps.old) }
-    ensures { Solved n m owners.now marks.now costs.now froms.now tos.now values.old steps.old values.new steps.new }
-{
-    let mut codes = [0u16; Chart::MOVES];
-    let mut entries = [0u16; Chart::MOVES];
+    let mut codes = [0u16; N];
+    let mut entries = [0u16; N];
     solve_in(
         n,
         m,
@@ -157,8 +125,7 @@ fn solve_rounds(
     let mut lists = first_value(
         n, marks, starts, entries, needs, values, steps, order, due, later,
     );
-    let mut last: u16 = 0;
-    while (last as usize) < n {
+    for last in 0..n as u16 {
         let head = lists.tail;
         lists = next_value(
             last, lists, starts, entries, needs, values, steps, order, due, later,
@@ -166,7 +133,6 @@ fn solve_rounds(
         if lists.tail == head {
             return;
         }
-        last += 1;
     }
 }
 
@@ -249,10 +215,8 @@ fn begin_value(
     ensures { ValueBegun k tail late values.old steps.old order.old later.now result values.new steps.new order.new }
 {
     let mut grown = tail;
-    let mut i: usize = 0;
-    while i < late {
+    for i in 0..late {
         grown = put(later[i] as usize, k, 0, grown, values, steps, order);
-        i += 1;
     }
     grown
 }
@@ -263,20 +227,11 @@ fn gather(n: usize, marks: &[u8], later: &mut [u16]) -> usize
     ensures { Listed n result later.new (λ v. eqb (get_or marks.now v 0) 1) }
 {
     let mut late: usize = 0;
-    let mut v: usize = 0;
-    while v < n {
+    for v in 0..n {
         later[late] = v as u16;
-        late += is_one(marks[v]);
-        v += 1;
+        late += usize::from(marks[v] == 1);
     }
     late
-}
-
-// 1 for a mark of 1, else 0.
-fn is_one(mark: u8) -> usize
-    ensures { result ≡ bit (eqb mark 1) }
-{
-    if mark == 1 { 1 } else { 0 }
 }
 
 // The rounds (k, 1), (k, 2), .. up to the first that places nobody. The order has the positions of round (k, 0) from `head` on.

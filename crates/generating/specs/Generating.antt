@@ -1,13 +1,11 @@
 -- Generating (document 02, order 9): "Given n and an index from 0, write the chart, its marks as 0 or 1, and answer its length"; "21, n outside
 -- 1 to 3, an index past the last .. before 10". What lies past the chart stays, and on a refusal everything does.
-use Rattle.std.specs.Prelude.{ℕ, ◌+◌, ◌*◌, ◌≤◌, ◌≡◌, Bool, cond, ◌&&◌, List, ◌++◌, length, drop, leb, ltb}
+use Rattle.std.specs.Prelude.{ℕ, ◌+◌, ◌*◌, ◌≤◌, ◌≡◌, Bool, cond, ◌&&◌, List, ◌++◌, length, drop, leb, ltb, Result, Ok, Err}
 use Rattle.line.specs.Joined.{joined}
 use Rattle.chart.specs.Meaning.{chart_line, chart_text}
 use Rattle.numbering.specs.Numbering.{chart_count}
 use Rattle.numbering.specs.Squares.{small_arena}
 use Rattle.square_lines.specs.Lines.{owner_line, move_lines, moves_count}
-use Rattle.writing.specs.declared.Written.{Written}
-use Rattle.writing.specs.declared.Written.TheVariants.{Length, Refused}
 use Rattle.refusal.specs.declared.Refusal.{Refusal}
 use Rattle.refusal.specs.declared.Refusal.TheVariants.{NotSmall, Short}
 
@@ -20,14 +18,14 @@ unfoldable pub small_text : (n i : ℕ) → List ℕ
 small_text n i = chart_text (small_arena n i)
 
 -- the answer for a buffer of this length
-unfoldable pub generated : (n i room : ℕ) → Written
-generated n i room = cond (is_index n i) (cond (leb (length (small_text n i)) room) (Length (length (small_text n i))) (Refused Short)) (Refused NotSmall)
+unfoldable pub generated : (n i room : ℕ) → Result ℕ Refusal
+generated n i room = cond (is_index n i) (cond (leb (length (small_text n i)) room) (Ok (length (small_text n i))) (Err Short)) (Err NotSmall)
 
 -- the answer, and every byte of the buffer afterwards
-pub record GeneratedIs (n i : ℕ) (out out' : List ℕ) (r : Written) : Type 0 where
+pub record GeneratedIs (n i : ℕ) (out out' : List ℕ) (r : Result ℕ Refusal) : Type 0 where
   pub answer : r ≡ generated n i (length out)
-  pub taken : (k : ℕ) → r ≡ Length k → out' ≡ small_text n i ++ drop k out
-  pub refused : (x : Refusal) → r ≡ Refused x → out' ≡ out
+  pub taken : (k : ℕ) → r ≡ Ok k → out' ≡ small_text n i ++ drop k out
+  pub refused : (x : Refusal) → r ≡ Err x → out' ≡ out
 
 -- Within the job: the lines of squares, written at the front of a buffer that they fit
 

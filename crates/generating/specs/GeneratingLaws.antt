@@ -4,7 +4,7 @@ use Prim.Native.Nat.{ℕ, zero, suc, ◌+◌, ◌-◌, ◌*◌, ◌^◌, ◌≤�
 use native.Mathlib.Omega.{arith}
 use Rattle.std.proofs.Common.{mul-le-mul, pow_mono, sym, ◌∙◌, true≢false}
 use Rattle.std.proofs.Math.Path.{◌≡◌, refl, ap, ap₂}
-use Rattle.std.specs.Prelude.{Bool, ◌&&◌, not, length, get_or, take, eqb, leb, ltb}
+use Rattle.std.specs.Prelude.{Bool, ◌&&◌, not, length, get_or, take, eqb, leb, ltb, Ok, Err}
 use Rattle.std.proofs.Math.Bool.{true, false, cond}
 use Rattle.std.proofs.lemmas.Bool.{false≢true}
 use mathlib.Core.List.{List, [], ◌∷◌, ◌++◌, append_assoc}
@@ -30,7 +30,6 @@ use Rattle.squares.specs.Held.{SquareIs, cell}
 use Rattle.square_lines.specs.Lines.{owner_byte, owner_line, move_lines, moves_count}
 use Rattle.square_lines.specs.LinesLaws.{moves-bound, behind}
 use Rattle.refusal.specs.declared.Refusal.TheVariants.{NotSmall, Short}
-use Rattle.writing.specs.declared.Written.TheVariants.{Length, Refused}
 use Rattle.generating.specs.Generating.{is_index, small_text, generated, GeneratedIs, SquaresFit, SquaresWritten}
 
 -- arrays that hold squares of n positions
@@ -142,7 +141,7 @@ index-bounds n i e =
     both false c e = absurd (false≢true e)
 
 module _ (n i : ℕ) (out : List ℕ) where
-  pub not-small : is_index n i ≡ false → GeneratedIs n i out out (Refused NotSmall)
+  pub not-small : is_index n i ≡ false → GeneratedIs n i out out (Err NotSmall)
   unfolding generated
   not-small e = record {
     answer = rw e;
@@ -160,7 +159,7 @@ module _ (n i : ℕ) (out : List ℕ) where
         let moves = counted ∙ count-is (squares_of n i) n owners marks meant disturbances h in
         (set_out (small_arena n i) c.0.chartable).lines ∙ ap₂ (λ (x y : ℕ). (1 + x + y) * 12) c.1.0 (sym moves)
 
-    pub too_short : length out < (1 + n + m) * 12 → GeneratedIs n i out out (Refused Short)
+    pub too_short : length out < (1 + n + m) * 12 → GeneratedIs n i out out (Err Short)
     unfolding generated
     too_short l = record {
       answer = rw (is, lt-leb (length (small_text n i)) (length out) (omega (arith, text-length)));
@@ -168,7 +167,7 @@ module _ (n i : ℕ) (out : List ℕ) where
       refused = λ x z. refl;
     }
 
-    pub set-out-whole : (out' : List ℕ) → (1 + n + m) * 12 ≤ length out → SquaresWritten n m owners marks meant disturbances out out' → GeneratedIs n i out out' (Length ((1 + n + m) * 12))
+    pub set-out-whole : (out' : List ℕ) → (1 + n + m) * 12 ≤ length out → SquaresWritten n m owners marks meant disturbances out out' → GeneratedIs n i out out' (Ok ((1 + n + m) * 12))
     unfolding generated small_text small_arena
     set-out-whole out' l w = record {
       answer = rw (is, le-leb (length (small_text n i)) (length out) (omega (arith, text-length)), text-length);
@@ -186,15 +185,15 @@ pub record Taken (n i k : ℕ) : Type 0 where
   pub bounds : (1 ≤ n) × (n ≤ 3) × (i < chart_count n)
   pub bytes-are : k ≡ length (small_text n i)
 
-pub length_taken : (n i room : ℕ) {k : ℕ} → Length k ≡ generated n i room → Taken n i k
+pub length_taken : (n i room : ℕ) {k : ℕ} → Ok k ≡ generated n i room → Taken n i k
 unfolding generated
 length_taken n i room {k} = go (is_index n i) (leb (length (small_text n i)) room) refl
   where
-    go : (p q : Bool) → is_index n i ≡ p → Length k ≡ cond p (cond q (Length (length (small_text n i))) (Refused Short)) (Refused NotSmall) → Taken n i k
+    go : (p q : Bool) → is_index n i ≡ p → Ok k ≡ cond p (cond q (Ok (length (small_text n i))) (Err Short)) (Err NotSmall) → Taken n i k
     go true true e z = record { bounds = index-bounds n i e; bytes-are = cc }
     go true false e z = let w : ◌≡◌ {A = ℕ} 0 1 = cc in absurd (omega arith)
     go false q e z = let w : ◌≡◌ {A = ℕ} 0 1 = cc in absurd (omega arith)
 
-pub taken-length : (n i room : ℕ) → 1 ≤ n → n ≤ 3 → i < chart_count n → length (small_text n i) ≤ room → generated n i room ≡ Length (length (small_text n i))
+pub taken-length : (n i room : ℕ) → 1 ≤ n → n ≤ 3 → i < chart_count n → length (small_text n i) ≤ room → generated n i room ≡ Ok (length (small_text n i))
 unfolding generated is_index
 taken-length n i room some few below l = rw (le-leb 1 n some, le-leb n 3 few, lt-ltb i (chart_count n) below, le-leb (length (small_text n i)) room l)

@@ -9,15 +9,14 @@ use rows::Chart;
 use sheet_lines::write_line;
 use square_lines::{count_moves, write_moves, write_positions};
 use squares::{chart_count, digit_square, digits_of, marks_of, owners_of, sets};
-use writing::Written;
 
 // Writes the chart of this index among those of so many positions into a lent buffer, and answers its length. What lies past its last line
 // stays, and on a refusal everything does.
-pub fn write_small_chart(positions: usize, index: usize, chart: &mut [u8]) -> Written
+pub fn write_small_chart(positions: usize, index: usize, chart: &mut [u8]) -> Result<usize, Refusal>
     ensures { GeneratedIs positions index chart.old chart.new result }
 {
     if !is_index(positions, index) {
-        return Written::Refused(Refusal::NotSmall);
+        return Err(Refusal::NotSmall);
     }
     let t = sets(positions);
     let digits = digits_of(positions, index);
@@ -28,7 +27,7 @@ pub fn write_small_chart(positions: usize, index: usize, chart: &mut [u8]) -> Wr
     let moves = count_moves(positions, meant, disturbances);
     let length = (1 + positions + moves) * Chart::LINE;
     if chart.len() < length {
-        return Written::Refused(Refusal::Short);
+        return Err(Refusal::Short);
     }
     write_squares(
         positions,
@@ -39,7 +38,7 @@ pub fn write_small_chart(positions: usize, index: usize, chart: &mut [u8]) -> Wr
         disturbances,
         chart,
     );
-    Written::Length(length)
+    Ok(length)
 }
 
 // Whether there is a chart of so many positions that has this index.

@@ -69,12 +69,10 @@ pub fn pick_good(
     ensures { Picked owners.now costs.now froms.now tos.now values.now m result positions.new targets.new }
 {
     let mut count: usize = 0;
-    let mut i: usize = 0;
-    while i < m {
+    for i in 0..m {
         count = pick_move(
             i, count, owners, costs, froms, tos, values, positions, targets,
         );
-        i += 1;
     }
     count
 }

@@ -1,6 +1,6 @@
 -- Each answer of a house is given exactly when its condition holds. Forward, by cases on the test for 20, Checking's answer and the first
 -- lane whose test fails, if there is one; backward, the condition settles each of these in turn.
-use Rattle.std.specs.Prelude.{ℕ, ◌<◌, ◌≡◌, ◌⊎◌, ◌↔◌, Bool, true, false, not, cond, List, length, get_or, eqb}
+use Rattle.std.specs.Prelude.{ℕ, ◌<◌, ◌≡◌, ◌⊎◌, ◌↔◌, Bool, true, false, not, cond, List, length, get_or, eqb, ⊤, Result, Ok, Err}
 use Rattle.std.proofs.Common.{arith, sym, ◌∙◌, inl, eqb-true}
 use Rattle.std.proofs.Math.Path.{refl, ap, subst}
 use Rattle.std.proofs.Math.Logic.{inr, ⊎_elim}
@@ -13,19 +13,14 @@ use Rattle.refusal.specs.declared.Refusal.TheVariants.{Lanes, Chart as OfChart, 
 use Rattle.checking.specs.Answers.{AcceptedIs, RefusedIs}
 use Rattle.checking.specs.AnswersExact.{answer-exactly}
 use Rattle.checking.specs.Checking.{checked}
-use Rattle.checking.specs.declared.Checked.{Checked}
-use Rattle.checking.specs.declared.Checked.TheVariants.{Accepted, Refused as NotAccepted}
 use Rattle.run.specs.Running.{no_run, reported}
 use Rattle.run.specs.Answers.{ReportRefused}
 use Rattle.run.proofs.AnswersExact.{report-refused-exactly}
 use Rattle.run.specs.declared.Run.{Run}
-use Rattle.run.specs.declared.Answer.{Answer}
-use Rattle.run.specs.declared.Answer.TheVariants.{Taken, Refused as Declined}
 use Rattle.house.specs.Housing.{checked_answer, house_answer, lane_passes, lane_refused, lane_reported, lanes_answer, refused_at, reporting, singly, taken}
 use Rattle.house.specs.Answers.{Drivable, Driven, HouseAnswerIs, LaneRefused, NotRefused, OfLane, Reports}
+use Rattle.run.specs.declared.Advice.{Advice}
 use Rattle.house.proofs.HousingLaws.{drivable-false, drivable-or-not, drivable-true}
-use Rattle.house.specs.declared.Housed.{Housed}
-use Rattle.house.specs.declared.Housed.TheVariants.{Moved, Refused}
 
 -- the test of a lane's report and the condition
 reports-or-not : (reports : List ℕ) (lane : ℕ)
@@ -41,8 +36,8 @@ reports-or-not reports lane = go (eqb (get_or reports lane 65535) 65535) refl
 -- Checking's answer is one
 pub accepted-not-refused : (text plate : List ℕ) (x : Refusal) → AcceptedIs text plate → RefusedIs text plate x → ⊥
 accepted-not-refused text plate x is h =
-    let p = (answer-exactly text plate Accepted).1 is in
-    let q = (answer-exactly text plate (NotAccepted x)).1 h in
+    let p = (answer-exactly text plate (Ok tt)).1 is in
+    let q = (answer-exactly text plate (Err x)).1 h in
     let z : ◌≡◌ {A = ℕ} 0 1 = cc in
     omega arith
 
@@ -65,13 +60,13 @@ module _ (runs : List Run) (reports text plate : List ℕ) where
   abbrev passes : ℕ → Bool
   passes = lane_passes (singly text plate) runs reports
 
-  abbrev refusal : ℕ → Housed
+  abbrev refusal : ℕ → Result ℕ (ℕ × Refusal)
   refusal = lane_refused (singly text plate) runs reports
 
-  abbrev Is : Housed → Type 0
+  abbrev Is : Result ℕ (ℕ × Refusal) → Type 0
   Is = HouseAnswerIs runs reports text plate
 
-  abbrev answer_at : ℕ → Answer
+  abbrev answer_at : ℕ → Result Advice Refusal
   answer_at lane = (reported (get_or runs lane no_run) text plate (get_or reports lane 65535)).answer
 
   -- the test of a lane and the condition
@@ -80,15 +75,15 @@ module _ (runs : List Run) (reports text plate : List ℕ) where
   unfolding lane_passes lane_reported taken
   passes-or-not lane = go (reporting reports lane) (answer_at lane) (reports-or-not reports lane) refl
     where
-      refused : (x : Refusal) → (answer_at lane ≡ Declined x) ↔ LaneRefused runs reports text plate lane x
+      refused : (x : Refusal) → (answer_at lane ≡ Err x) ↔ LaneRefused runs reports text plate lane x
       refused = report-refused-exactly (get_or runs lane no_run) text plate (get_or reports lane 65535)
 
-      go : (b : Bool) (a : Answer) → ((b ≡ true) × Reports reports lane) ⊎ ((b ≡ false) × (Reports reports lane → ⊥)) → answer_at lane ≡ a
+      go : (b : Bool) (a : Result Advice Refusal) → ((b ≡ true) × Reports reports lane) ⊎ ((b ≡ false) × (Reports reports lane → ⊥)) → answer_at lane ≡ a
           → ((cond b (taken a) true ≡ true) × NotRefused runs reports text plate lane)
           ⊎ ((cond b (taken a) true ≡ false) × Reports reports lane × ((x : Refusal) × LaneRefused runs reports text plate lane x))
       go b a (inr (e, silent)) z = inl (rw e, λ here. absurd (silent here))
-      go b (Declined x) (inl (e, here)) z = inr (rw e, here, (x, (refused x).0 z))
-      go b (Taken advice) (inl (e, here)) z = inl (rw e, λ h x k. let q = (refused x).1 k in let w : ◌≡◌ {A = ℕ} 0 1 = cc in omega arith)
+      go b (Err x) (inl (e, here)) z = inr (rw e, here, (x, (refused x).0 z))
+      go b (Ok advice) (inl (e, here)) z = inl (rw e, λ h x k. let q = (refused x).1 k in let w : ◌≡◌ {A = ℕ} 0 1 = cc in omega arith)
 
   free-passes : (lane : ℕ) → NotRefused runs reports text plate lane → passes lane ≡ true
   free-passes lane free = ⊎_elim (λ w. w.0) (λ w. absurd (free w.1 w.2.0 w.2.1)) (passes-or-not lane)
@@ -96,7 +91,7 @@ module _ (runs : List Run) (reports text plate : List ℕ) where
   refused-fails : (lane : ℕ) (x : Refusal) → Reports reports lane → LaneRefused runs reports text plate lane x → passes lane ≡ false
   refused-fails lane x here h = ⊎_elim (λ w. absurd (w.1 here x h)) (λ w. w.0) (passes-or-not lane)
 
-  lane-refused : (lane : ℕ) (x : Refusal) → LaneRefused runs reports text plate lane x → refusal lane ≡ Refused lane x
+  lane-refused : (lane : ℕ) (x : Refusal) → LaneRefused runs reports text plate lane x → refusal lane ≡ Err (lane, x)
   unfolding lane_refused lane_reported refused_at
   lane-refused lane x h = ap (refused_at lane) ((report-refused-exactly (get_or runs lane no_run) text plate (get_or reports lane 65535) x).1 h)
 
@@ -108,8 +103,8 @@ module _ (runs : List Run) (reports text plate : List ℕ) where
       (λ w. refused w.0 w.1)
       (first_or_none passes (length runs) 0)
     where
-      moved : Housed
-      moved = Moved (count_below (reporting reports) (length runs))
+      moved : Result ℕ (ℕ × Refusal)
+      moved = Ok (count_below (reporting reports) (length runs))
 
       passed : (lane : ℕ) → passes lane ≡ true → NotRefused runs reports text plate lane
       passed lane e = ⊎_elim (λ w. w.1) (λ w. let q = w.0 in let z : ◌≡◌ {A = ℕ} 0 1 = cc in absurd (omega arith)) (passes-or-not lane)
@@ -131,10 +126,10 @@ module _ (runs : List Run) (reports text plate : List ℕ) where
           }))))
           (passes-or-not lane)
 
-  of-checked : Drivable (length runs) (length reports) → (c : Checked) → checked text plate ≡ c → Is (checked_answer (singly text plate) runs reports (length runs) c)
+  of-checked : Drivable (length runs) (length reports) → (c : Result ⊤ Refusal) → checked text plate ≡ c → Is (checked_answer (singly text plate) runs reports (length runs) c)
   unfolding checked_answer
-  of-checked d (NotAccepted x) e = inr (inl (refl, d, (answer-exactly text plate (NotAccepted x)).0 e))
-  of-checked d Accepted e = of-lanes (record { drivable = d; accepted = (answer-exactly text plate Accepted).0 e })
+  of-checked d (Err x) e = inr (inl (refl, d, (answer-exactly text plate (Err x)).0 e))
+  of-checked d (Ok _) e = of-lanes (record { drivable = d; accepted = (answer-exactly text plate (Ok tt)).0 e })
 
   answered : Is (house_answer runs reports text plate (length runs))
   unfolding house_answer
@@ -144,17 +139,17 @@ module _ (runs : List Run) (reports text plate : List ℕ) where
   -- backward
   driven-answer : Driven runs reports text plate → house_answer runs reports text plate (length runs) ≡ lanes_answer (singly text plate) runs reports (length runs)
   unfolding house_answer checked_answer
-  driven-answer w = rw (drivable-true w.drivable, (answer-exactly text plate Accepted).1 w.accepted)
+  driven-answer w = rw (drivable-true w.drivable, (answer-exactly text plate (Ok tt)).1 w.accepted)
 
-  from : (r : Housed) → Is r → house_answer runs reports text plate (length runs) ≡ r
+  from : (r : Result ℕ (ℕ × Refusal)) → Is r → house_answer runs reports text plate (length runs) ≡ r
   unfolding house_answer checked_answer lanes_answer
-  from (Moved count) w =
+  from (Ok count) w =
       driven-answer w.driven
       ∙ first-none passes refusal _ (length runs) 0 (λ lane l m. free-passes lane (w.free lane (omega arith)))
-      ∙ ap Moved (sym w.counts)
-  from (Refused lane x) (inl (here, only, apart)) = rw (here, only, drivable-false apart)
-  from (Refused lane x) (inr (inl (here, d, h))) = rw (here, drivable-true d, (answer-exactly text plate (NotAccepted x)).1 h)
-  from (Refused lane x) (inr (inr w)) =
+      ∙ ap Ok (sym w.counts)
+  from (Err (lane, x)) (inl (here, only, apart)) = rw (here, only, drivable-false apart)
+  from (Err (lane, x)) (inr (inl (here, d, h))) = rw (here, drivable-true d, (answer-exactly text plate (Err x)).1 h)
+  from (Err (lane, x)) (inr (inr w)) =
       driven-answer w.driven
       ∙ first-at passes refusal _ (length runs) 0 lane (record {
         low = omega arith;
@@ -164,7 +159,7 @@ module _ (runs : List Run) (reports text plate : List ℕ) where
       })
       ∙ lane-refused lane x w.refused
 
-  pub house-exactly : (r : Housed) → (house_answer runs reports text plate (length runs) ≡ r) ↔ Is r
+  pub house-exactly : (r : Result ℕ (ℕ × Refusal)) → (house_answer runs reports text plate (length runs) ≡ r) ↔ Is r
   house-exactly r = (
     λ e. subst Is e answered,
     from r,

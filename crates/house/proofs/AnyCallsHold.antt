@@ -1,7 +1,7 @@
 -- The guarantee of order 5 at each lane that keeps its run. A call does to a lane's record what the single reports that the lane has by it do, if
 -- any; so after a row of calls the record is the run after the lane's own single reports, and what is shown of these
 -- (run/proofs/AnyTextsHold.antt) holds of it.
-use Rattle.std.specs.Prelude.{ℕ, ◌≡◌, Bool, List, [], ◌∷◌, ◌++◌}
+use Rattle.std.specs.Prelude.{ℕ, ◌≡◌, Bool, List, [], ◌∷◌, ◌++◌, Result, Ok, Err}
 use Rattle.std.proofs.Math.Path.{refl, ap, subst}
 use Rattle.std.proofs.Common.{sym, ◌∙◌}
 use Rattle.std.proofs.Math.Bool.{true, false, cond}
@@ -16,11 +16,9 @@ use Rattle.run.specs.AnyTexts.{Report, Sustained, Texts, answered, run_after, se
 use Rattle.run.proofs.AnyTextsHold.{run-sustains-any-texts}
 use Rattle.run.specs.declared.Run.{Run}
 use Rattle.run.specs.declared.Advice.{Advice}
-use Rattle.run.specs.declared.Started.TheVariants.{Begun}
 use Rattle.house.specs.Housing.{lane_after, lane_moved, lane_reported, reporting, singly}
+use Rattle.refusal.specs.declared.Refusal.{Refusal}
 use Rattle.house.specs.AnyCalls.{Call, Drives, Keeps, KeepsAll, Step, WrittenAt, lane_report, lane_reports, own_report}
-use Rattle.house.specs.declared.Housed.{Housed}
-use Rattle.house.specs.declared.Housed.TheVariants.{Moved, Refused}
 
 -- reports one row after the other
 after_both : (run : Run) (rs ts : List Report) → run_after run (rs ++ ts) ≡ run_after (run_after run rs) ts
@@ -34,11 +32,11 @@ module _ (lane : ℕ) (runs : List Run) where
   abbrev here : Run
   here = get_or runs lane no_run
 
-  house-lane : (reports : List ℕ) (texts : Texts) (r : Housed)
+  house-lane : (reports : List ℕ) (texts : Texts) (r : Result ℕ (ℕ × Refusal))
       → lane_after (singly texts.chart texts.plate) runs reports r lane ≡ run_after here (own_report r reports texts lane)
   unfolding lane_after lane_moved lane_reported own_report run_after
-  house-lane reports texts (Refused at x) = refl
-  house-lane reports texts (Moved count) = go (reporting reports lane)
+  house-lane reports texts (Err (at, x)) = refl
+  house-lane reports texts (Ok count) = go (reporting reports lane)
     where
       go : (b : Bool) → cond b (lane_reported (singly texts.chart texts.plate) runs reports lane).run here
           ≡ run_after here (cond b (record { texts = texts; to = get_or reports lane 65535 } ∷ []) [])
@@ -57,7 +55,7 @@ module _ (lane : ℕ) (runs : List Run) where
   call-lane : (c : Call) (after : List Run) → Step runs c after → Keeps lane c → get_or after lane no_run ≡ run_after here (lane_report lane runs c)
   unfolding lane_report run_after
   call-lane (Call.house reports texts) after (r, is) kept =
-      is.records lane ∙ house-lane reports texts r ∙ ap (λ (x : Housed). run_after here (own_report x reports texts lane)) is.answer
+      is.records lane ∙ house-lane reports texts r ∙ ap (λ (x : Result ℕ (ℕ × Refusal)). run_after here (own_report x reports texts lane)) is.answer
   call-lane (Call.single at r) after is kept = single-lane at r after is
   call-lane (Call.anew at run) after is kept = is.elsewhere lane (λ z. kept (sym z))
 
@@ -74,7 +72,7 @@ lane_runs lane runs (c ∷ cs) after (next, step, rest) kept =
 
 -- "The guarantee of order 5 then holds at each lane of the house": of a lane whose record a start began, with whatever texts
 module _ (text plate : List ℕ) (position : ℕ) (runs : List Run) (lane : ℕ) (advice : Advice)
-    (begun : started text plate position ≡ Begun (get_or runs lane no_run) advice)
+    (begun : started text plate position ≡ Ok ((get_or runs lane no_run), advice))
     (calls : List Call) (after : List Run) (d : Drives runs calls after) (kept : KeepsAll lane calls) where
   abbrev first : Texts
   first = record { chart = text; plate = plate }

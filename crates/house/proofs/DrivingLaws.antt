@@ -1,5 +1,5 @@
 -- The lanes of a house, one after the other: what is known before each lane, and what each lane makes of it.
-use Rattle.std.specs.Prelude.{ℕ, ◌+◌, ◌-◌, ◌≤◌, ◌<◌, ◌≡◌, refl, true, false, List, length, get_or, set}
+use Rattle.std.specs.Prelude.{ℕ, ◌+◌, ◌-◌, ◌≤◌, ◌<◌, ◌≡◌, refl, true, false, List, length, get_or, set, Result, Ok, Err}
 use Rattle.std.proofs.Math.Nat.{sub-zero}
 use Rattle.std.proofs.Math.Decide.{dec_lt}
 use Rattle.std.proofs.Common.{arith, ap, ◌∙◌, length-set, get_or-set_same, below_more, eq-eqb, ne_eqb}
@@ -13,17 +13,13 @@ use Rattle.search.proofs.FirstLaws.{first_next, first-stop, first_done}
 use Rattle.rows.specs.Rows.{RowsOf}
 use Rattle.game.specs.Arena.{Arena}
 use Rattle.refusal.specs.declared.Refusal.{Refusal}
-use Rattle.verdict.specs.declared.Verdict.TheVariants.{Sound}
 use Rattle.checking.specs.Checking.{plate_verdict}
 use Rattle.run.specs.Running.{CheckedReport, no_run}
 use Rattle.run.specs.declared.Advice.{Advice}
 use Rattle.run.specs.declared.Run.{Run}
-use Rattle.run.specs.declared.Answer.TheVariants.{Taken, Refused as Declined}
 use Rattle.run.specs.declared.Reported.{Reported}
 use Rattle.house.specs.Housing.{lane_after, lane_moved, lane_passes, lane_refused, lane_reported, lanes_answer, refused_at, reporting, taken, written_by}
 use Rattle.house.specs.Driving.{HandedBack, LanesDriven, inside, refused_house}
-use Rattle.house.specs.declared.Housed.{Housed}
-use Rattle.house.specs.declared.Housed.TheVariants.{Moved, Refused}
 
 -- within a list, what stands past its end doesn't matter
 within-list : {A : Type 0} (l : List A) (i : ℕ) (d e : A) → i < length l → get_or l i d ≡ get_or l i e
@@ -51,7 +47,7 @@ quiet-stays single runs reports lane l = rw (quiet-past reports lane l)
 -- The lanes below `lane` have passed: what is answered is found from there on, and their records are moved.
 module _ (single : Run → ℕ → Reported) (runs : List Run) (reports : List ℕ) (lanes : ℕ) where
   pub record Passed (after : List Run) (lane : ℕ) : Type 0 where
-    pub answer : first_from (lane_passes single runs reports) (lane_refused single runs reports) (Moved (count_below (reporting reports) lanes)) (lanes - lane) lane
+    pub answer : first_from (lane_passes single runs reports) (lane_refused single runs reports) (Ok (count_below (reporting reports) lanes)) (lanes - lane) lane
         ≡ lanes_answer single runs reports lanes
     pub records : (i : ℕ) → i < lane → get_or after i no_run ≡ lane_moved single runs reports i
 
@@ -63,7 +59,7 @@ module _ (single : Run → ℕ → Reported) (runs : List Run) (reports : List �
     next-passed : (later : List Run) → lane_passes single runs reports lane ≡ true → ((i : ℕ) → i < lane → get_or later i no_run ≡ get_or after i no_run)
         → get_or later lane no_run ≡ lane_moved single runs reports lane → Passed later (lane + 1)
     next-passed later e kept here = record {
-      answer = first_next (lane_passes single runs reports) (lane_refused single runs reports) (Moved (count_below (reporting reports) lanes)) lanes lane l e ∙ h.answer;
+      answer = first_next (lane_passes single runs reports) (lane_refused single runs reports) (Ok (count_below (reporting reports) lanes)) lanes lane l e ∙ h.answer;
       records = below_more (λ i. get_or later i no_run ≡ lane_moved single runs reports i) lane (λ i k. kept i k ∙ h.records i k) here;
     }
 
@@ -72,22 +68,22 @@ module _ (single : Run → ℕ → Reported) (runs : List Run) (reports : List �
     quiet-passed e stays = next-passed after (rw e) (λ i k. refl) (rw e stays)
 
     module _ (e : reporting reports lane ≡ true) {r : Reported} (is : r ≡ lane_reported single runs reports lane) where
-      moved-passed : (advice : Advice) → r.answer ≡ Taken advice → lane < length after → Passed (set after lane r.run) (lane + 1)
+      moved-passed : (advice : Advice) → r.answer ≡ Ok advice → lane < length after → Passed (set after lane r.run) (lane + 1)
       unfolding lane_passes lane_moved taken
       moved-passed advice told within =
           next-passed (set after lane r.run) (rw (e, ← is, told))
           (λ i k. get_or-set_other after lane i r.run no_run (λ same. omega (arith, same)))
           (get_or-set_same after lane r.run no_run within ∙ rw (e, ← is))
 
-      refused-passed : (x : Refusal) → r.answer ≡ Declined x → Refused lane x ≡ lanes_answer single runs reports lanes
+      refused-passed : (x : Refusal) → r.answer ≡ Err x → Err (lane, x) ≡ lanes_answer single runs reports lanes
       unfolding lane_passes lane_refused refused_at taken
       refused-passed x told =
-          sym (first-stop (lane_passes single runs reports) (lane_refused single runs reports) (Moved (count_below (reporting reports) lanes)) lanes lane l (rw (e, ← is, told)) ∙ rw (← is, told))
+          sym (first-stop (lane_passes single runs reports) (lane_refused single runs reports) (Ok (count_below (reporting reports) lanes)) lanes lane l (rw (e, ← is, told)) ∙ rw (← is, told))
           ∙ h.answer
 
 -- a house that is handed back as it was
-pub driven-refused : (single : Run → ℕ → Reported) (runs : List Run) (lanes : ℕ) (reports : List ℕ) (lane : ℕ) (x : Refusal) {answered : Housed}
-    → Refused lane x ≡ answered → HandedBack single runs lanes reports answered (refused_house runs lane x)
+pub driven-refused : (single : Run → ℕ → Reported) (runs : List Run) (lanes : ℕ) (reports : List ℕ) (lane : ℕ) (x : Refusal) {answered : Result ℕ (ℕ × Refusal)}
+    → Err (lane, x) ≡ answered → HandedBack single runs lanes reports answered (refused_house runs lane x)
 unfolding refused_house written_by lane_after
 driven-refused single runs lanes reports lane x e = record { answer = e; written = refl; count = refl; records = λ i. refl }
 
@@ -98,7 +94,7 @@ pub record LanesPassed (n m : ℕ) (owners costs froms tos : List ℕ) (runs : L
   pub same_length : length after ≡ length runs
   pub count : moved ≡ count_below (reporting reports) lane
   pub rest : (i : ℕ) → lane ≤ i → get_or after i no_run ≡ get_or runs i no_run
-  pub passed : (a : Arena) (marks : List ℕ) → RowsOf a n m owners marks costs froms tos → plate_verdict a plate ≡ Sound → Passed (inside a plate) runs reports lanes after lane
+  pub passed : (a : Arena) (marks : List ℕ) → RowsOf a n m owners marks costs froms tos → plate_verdict a plate ≡ Ok tt → Passed (inside a plate) runs reports lanes after lane
 
 pub lanes-begin : (n m : ℕ) (owners costs froms tos : List ℕ) (runs : List Run) (lanes : ℕ) (reports plate : List ℕ) → LanesPassed n m owners costs froms tos runs lanes reports plate runs 0 0
 unfolding count_below
@@ -132,13 +128,13 @@ module _ {n m : ℕ} {owners costs froms tos : List ℕ} {runs : List Run} {lane
     -- a lane that reports, by its single report
     module _ (told : get_or reports lane 0 ≡ 65535 → ⊥) (within : lane < length runs) (e : Run) {r : Reported}
         (is : CheckedReport n m owners costs froms tos (get_or runs lane e) plate (get_or reports lane 0) r) where
-      single-report : (a : Arena) (marks : List ℕ) → RowsOf a n m owners marks costs froms tos → plate_verdict a plate ≡ Sound → r ≡ lane_reported (inside a plate) runs reports lane
+      single-report : (a : Arena) (marks : List ℕ) → RowsOf a n m owners marks costs froms tos → plate_verdict a plate ≡ Ok tt → r ≡ lane_reported (inside a plate) runs reports lane
       unfolding lane_reported
       single-report a marks d sound =
           is.answer a marks d sound
           ∙ rw (within-list runs lane e no_run within, within-list reports lane 0 65535 (omega arith))
 
-      pub lane-moved : (advice : Advice) → r.answer ≡ Taken advice → LanesPassed n m owners costs froms tos runs lanes reports plate (set after lane r.run) (moved + 1) (lane + 1)
+      pub lane-moved : (advice : Advice) → r.answer ≡ Ok advice → LanesPassed n m owners costs froms tos runs lanes reports plate (set after lane r.run) (moved + 1) (lane + 1)
       lane-moved advice went =
           let one = reports-one reports lane (omega arith) told in
           record {
@@ -150,7 +146,7 @@ module _ {n m : ℕ} {owners costs froms tos : List ℕ} {runs : List Run} {lane
                 moved-passed (inside a plate) runs reports lanes l (h.passed a marks d sound) one (single-report a marks d sound) advice went (omega (arith, h.same_length));
           }
 
-      pub lane-refused : (x : Refusal) → r.answer ≡ Declined x → LanesDriven n m owners costs froms tos runs lanes reports plate (refused_house runs lane x)
+      pub lane-refused : (x : Refusal) → r.answer ≡ Err x → LanesDriven n m owners costs froms tos runs lanes reports plate (refused_house runs lane x)
       lane-refused x refused = record {
         driven = λ a marks d sound.
             driven-refused (inside a plate) runs lanes reports lane x
@@ -158,7 +154,7 @@ module _ {n m : ℕ} {owners costs froms tos : List ℕ} {runs : List Run} {lane
       }
 
   -- after the last lane
-  pub lanes_end : lanes ≤ lane → LanesDriven n m owners costs froms tos runs lanes reports plate (record { runs = after; written = lanes; answer = Moved moved })
+  pub lanes_end : lanes ≤ lane → LanesDriven n m owners costs froms tos runs lanes reports plate (record { runs = after; written = lanes; answer = Ok moved })
   unfolding written_by lane_after
   lanes_end l = record {
     driven = λ a marks d sound. record {
@@ -172,13 +168,13 @@ module _ {n m : ℕ} {owners costs froms tos : List ℕ} {runs : List Run} {lane
       last : lane ≡ lanes
       last = omega (arith, h.within)
 
-      moved_all : (a : Arena) (marks : List ℕ) → RowsOf a n m owners marks costs froms tos → plate_verdict a plate ≡ Sound → Moved moved ≡ lanes_answer (inside a plate) runs reports lanes
+      moved_all : (a : Arena) (marks : List ℕ) → RowsOf a n m owners marks costs froms tos → plate_verdict a plate ≡ Ok tt → Ok moved ≡ lanes_answer (inside a plate) runs reports lanes
       moved_all a marks d sound =
-          ap Moved (h.count ∙ ap (count_below (reporting reports)) last)
-          ∙ sym (first_done (lane_passes (inside a plate) runs reports) (lane_refused (inside a plate) runs reports) (Moved (count_below (reporting reports) lanes)) lanes lane l)
+          ap Ok (h.count ∙ ap (count_below (reporting reports)) last)
+          ∙ sym (first_done (lane_passes (inside a plate) runs reports) (lane_refused (inside a plate) runs reports) (Ok (count_below (reporting reports) lanes)) lanes lane l)
           ∙ (h.passed a marks d sound).answer
 
-      at : (a : Arena) (marks : List ℕ) → RowsOf a n m owners marks costs froms tos → plate_verdict a plate ≡ Sound → (i : ℕ) → Dec (i < lane)
+      at : (a : Arena) (marks : List ℕ) → RowsOf a n m owners marks costs froms tos → plate_verdict a plate ≡ Ok tt → (i : ℕ) → Dec (i < lane)
           → get_or after i no_run ≡ lane_moved (inside a plate) runs reports i
       at a marks d sound i (yes k) = (h.passed a marks d sound).records i k
       at a marks d sound i (no k) = h.rest i (omega arith) ∙ quiet-stays (inside a plate) runs reports i (omega arith)

@@ -1,5 +1,6 @@
 -- How many lanes are driven; and a house's report from a chart's rows and from two texts.
-use Rattle.std.specs.Prelude.{ℕ, ◌≤◌, ◌<◌, ◌⊎◌, Bool, ◌&&◌, List, eqb, length}
+use Rattle.std.specs.Prelude.{ℕ, ◌≤◌, ◌<◌, ◌⊎◌, Bool, ◌&&◌, List, eqb, length, ⊤, Result, Ok, Err}
+use Rattle.verdict.specs.declared.FoundFault.{FoundFault}
 use Rattle.std.proofs.Common.{arith, sym, ap, subst, ◌∙◌, inl, inr}
 use Rattle.std.proofs.Math.Path.{◌≡◌, refl}
 use Rattle.std.proofs.Math.Logic.{⊎_elim}
@@ -10,20 +11,13 @@ use Rattle.rows.specs.Rows.{RowsOf}
 use Rattle.game.specs.Arena.{Arena}
 use Rattle.chart.specs.Meaning.{arena_of}
 use Rattle.chart.specs.Examined.{examined}
-use Rattle.chart.specs.declared.Examination.{Examination}
-use Rattle.chart.specs.declared.Examination.TheVariants.{Accepted as Taken, Refused as Turned}
 use Rattle.rows.specs.declared.Chart.{Chart}
 use Rattle.refusal.specs.declared.Misdrawn.{Misdrawn}
 use Rattle.refusal.specs.declared.Refusal.{Refusal}
 use Rattle.refusal.specs.declared.Refusal.TheVariants.{Chart as OfChart, Lanes}
 use Rattle.plate.specs.Formed.{form_of}
-use Rattle.plate.specs.declared.Form.{Form as PlateForm}
-use Rattle.verdict.specs.declared.Verdict.{Verdict}
-use Rattle.verdict.specs.declared.Verdict.TheVariants.{Sound, Fault as FaultAt}
 use Rattle.checking.specs.Checking.{PlateIs, answer_of, chart_checked, checked, plate_checked, plate_verdict}
 use Rattle.checking.specs.CheckingLaws.{accepted-form, refused-answer}
-use Rattle.checking.specs.declared.Checked.{Checked}
-use Rattle.checking.specs.declared.Checked.TheVariants.{Accepted, Refused as NotAccepted}
 use Rattle.run.specs.Running.{reported, reported_by, reported_form}
 use Rattle.run.specs.declared.Run.{Run}
 use Rattle.house.specs.Housing.{DriveIs, checked_answer, drivable, driven_lanes, house_answer, singly}
@@ -90,22 +84,22 @@ module _ (lanes reports : ℕ) where
 
 -- From a chart's rows
 
-module _ {n m : ℕ} {owners marks costs froms tos : List ℕ} (runs : List Run) (lanes : ℕ) (reports : List ℕ) {plate : List ℕ} {c : Checked}
+module _ {n m : ℕ} {owners marks costs froms tos : List ℕ} (runs : List Run) (lanes : ℕ) (reports : List ℕ) {plate : List ℕ} {c : Result ⊤ Refusal}
     (is : PlateIs n m owners marks costs froms tos plate c) where
-  pub rows-refused : (x : Refusal) → c ≡ NotAccepted x → RowsDriven n m owners marks costs froms tos runs lanes reports plate (refused_house runs 0 x)
+  pub rows-refused : (x : Refusal) → c ≡ Err x → RowsDriven n m owners marks costs froms tos runs lanes reports plate (refused_house runs 0 x)
   unfolding checked_answer
   rows-refused x e = record {
     driven = λ a d.
         driven-refused (any_plate a n plate) runs lanes reports 0 x (ap (checked_answer (any_plate a n plate) runs reports lanes) (sym e ∙ is.answer a d));
   }
 
-  pub rows-accepted : {r : House} → c ≡ Accepted → LanesDriven n m owners costs froms tos runs lanes reports plate r → RowsDriven n m owners marks costs froms tos runs lanes reports plate r
+  pub rows-accepted : {r : House} → c ≡ Ok tt → LanesDriven n m owners costs froms tos runs lanes reports plate r → RowsDriven n m owners marks costs froms tos runs lanes reports plate r
   unfolding checked_answer plate_checked reported_form
   rows-accepted {r} e h = record { driven = go }
     where
-      sound : (v : Verdict) → Accepted ≡ answer_of v → v ≡ Sound
-      sound Sound z = refl
-      sound (FaultAt v condition) z = let w : ◌≡◌ {A = ℕ} 0 1 = cc in absurd (omega arith)
+      sound : (v : Result ⊤ FoundFault) → (Ok tt) ≡ answer_of v → v ≡ Ok tt
+      sound (Ok _) z = refl
+      sound (Err f) z = let w : ◌≡◌ {A = ℕ} 0 1 = cc in absurd (omega arith)
 
       go : (a : Arena) → RowsOf a n m owners marks costs froms tos
           → HandedBack (any_plate a n plate) runs lanes reports (checked_answer (any_plate a n plate) runs reports lanes (plate_checked a plate (form_of n plate))) r
@@ -113,7 +107,7 @@ module _ {n m : ℕ} {owners marks costs froms tos : List ℕ} (runs : List Run)
           let form = accepted-form a d is e in
           let no-fault = sound (plate_verdict a plate) (sym e ∙ is.answer a d ∙ ap (plate_checked a plate) form) in
           subst
-          (λ (f : PlateForm).
+          (λ (f : Result ⊤ ℕ).
           HandedBack (λ run to. reported_form run a plate to f) runs lanes reports (checked_answer (λ run to. reported_form run a plate to f) runs reports lanes (plate_checked a plate f)) r)
           (sym form) (rw no-fault (h.driven a marks d no-fault))
 
@@ -128,16 +122,16 @@ module _ (runs : List Run) (lanes : ℕ) (reports text plate : List ℕ) where
   drive-undrivable e = drive-is (driven-refused (singly text plate) runs lanes reports 0 Lanes (rw e))
 
   module _ (can : drivable lanes (length reports) ≡ true) where
-    pub drive-refused : (x : Misdrawn) → examined text ≡ Turned x → DriveIs runs lanes reports text plate (refused_house runs 0 (OfChart x))
+    pub drive-refused : (x : Misdrawn) → examined text ≡ Err x → DriveIs runs lanes reports text plate (refused_house runs 0 (OfChart x))
     unfolding house_answer checked_answer
     drive-refused x e = drive-is (driven-refused (singly text plate) runs lanes reports 0 (OfChart x) (rw (can, ← refused-answer text plate x e)))
 
-    pub drive-taken : (chart : Chart) {r : House} {owners marks costs froms tos : List ℕ} → examined text ≡ Taken chart
+    pub drive-taken : (chart : Chart) {r : House} {owners marks costs froms tos : List ℕ} → examined text ≡ Ok chart
         → RowsOf (arena_of text) chart.positions chart.moves owners marks costs froms tos
         → RowsDriven chart.positions chart.moves owners marks costs froms tos runs lanes reports plate r → DriveIs runs lanes reports text plate r
     unfolding house_answer reported reported_by checked chart_checked
     drive-taken chart {r} e d h =
         drive-is
         (rw can
-        (subst (λ (x : Examination). HandedBack (λ run to. reported_by run text plate to x) runs lanes reports (checked_answer (λ run to. reported_by run text plate to x) runs reports lanes (chart_checked text plate x)) r) (sym e)
+        (subst (λ (x : Result Chart Misdrawn). HandedBack (λ run to. reported_by run text plate to x) runs lanes reports (checked_answer (λ run to. reported_by run text plate to x) runs reports lanes (chart_checked text plate x)) r) (sym e)
         (h.driven (arena_of text) d)))

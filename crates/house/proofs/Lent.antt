@@ -6,15 +6,13 @@ use Rattle.std.proofs.Common.{eq-or-lt_of_le, sym, ◌∙◌, get_or-set_same}
 use native.Mathlib.Omega.{arith}
 use Rattle.std.proofs.Math.Path.{◌≡◌, refl, ap, subst}
 use Rattle.std.proofs.Math.Logic.{⊎_elim}
-use Rattle.std.specs.Prelude.{Bool, List, length, set}
+use Rattle.std.specs.Prelude.{Bool, List, length, set, ⊤, Result, Ok, Err}
 use Rattle.std.proofs.Math.Bool.{true, false, cond}
 use Rattle.std.proofs.Math.ListN.{get_or}
 use Rattle.std.proofs.Math.Seq.{get_or-set_other}
 use Rattle.search.proofs.FirstLaws.{first-same}
 use Rattle.refusal.specs.declared.Refusal.TheVariants.{Lanes}
 use Rattle.checking.specs.Checking.{checked}
-use Rattle.checking.specs.declared.Checked.{Checked}
-use Rattle.checking.specs.declared.Checked.TheVariants.{Accepted, Refused as NotAccepted}
 use Rattle.run.specs.Running.{no_run}
 use Rattle.run.specs.declared.Run.{Run}
 use Rattle.run.specs.declared.Reported.{Reported}
@@ -22,8 +20,7 @@ use Rattle.house.specs.Housing.{DriveIs, HouseIs, checked_answer, drivable, driv
 use Rattle.house.specs.Copies.{copied, copied-length, no_runs}
 use Rattle.house.proofs.HousingLaws.{drivable-is}
 use Rattle.house.proofs.DrivingLaws.{quiet-stays}
-use Rattle.house.specs.declared.Housed.{Housed}
-use Rattle.house.specs.declared.Housed.TheVariants.{Moved, Refused}
+use Rattle.refusal.specs.declared.Refusal.{Refusal}
 use Rattle.house.specs.declared.House.{House}
 
 -- Copies
@@ -57,10 +54,10 @@ module _ (single : Run → ℕ → Reported) (held runs : List Run) (reports : L
   unfolding lane_moved
   moved_same lane l = rw (lane-same lane l, same lane l)
 
-  answer-same : (c : Checked) → checked_answer single held reports lanes c ≡ checked_answer single runs reports lanes c
+  answer-same : (c : Result ⊤ Refusal) → checked_answer single held reports lanes c ≡ checked_answer single runs reports lanes c
   unfolding checked_answer lanes_answer lane_passes lane_refused
-  answer-same (NotAccepted x) = refl
-  answer-same Accepted = first-same _ _ _ _ _ lanes 0 (λ lane low high. (rw (lane-same lane (omega arith)), rw (lane-same lane (omega arith))))
+  answer-same (Err x) = refl
+  answer-same (Ok _) = first-same _ _ _ _ _ lanes 0 (λ lane low high. (rw (lane-same lane (omega arith)), rw (lane-same lane (omega arith))))
 
 -- The lent house
 
@@ -93,7 +90,7 @@ module _ (runs : List Run) (reports : List ℕ) where
     house-same = go (drivable lanes (length reports)) refl
       where
         go : (b : Bool) → drivable lanes (length reports) ≡ b
-            → cond b (checked_answer (singly text plate) held reports lanes (checked text plate)) (Refused 0 Lanes) ≡ cond b (checked_answer (singly text plate) runs reports lanes (checked text plate)) (Refused 0 Lanes)
+            → cond b (checked_answer (singly text plate) held reports lanes (checked text plate)) (Err (0, Lanes)) ≡ cond b (checked_answer (singly text plate) runs reports lanes (checked text plate)) (Err (0, Lanes))
         go true e = answer-same (singly text plate) held runs reports lanes (driven-same e) (checked text plate)
         go false e = refl
 
@@ -101,11 +98,11 @@ module _ (runs : List Run) (reports : List ℕ) where
     answered = is.answer ∙ house-same
 
     -- an answer that counts was given to a house that is driven
-    moved-drivable : (c : ℕ) → h.answer ≡ Moved c → drivable lanes (length reports) ≡ true
+    moved-drivable : (c : ℕ) → h.answer ≡ Ok c → drivable lanes (length reports) ≡ true
     unfolding house_answer
     moved-drivable c e = go (drivable lanes (length reports)) (sym e ∙ answered)
       where
-        go : (b : Bool) → Moved c ≡ cond b (checked_answer (singly text plate) runs reports lanes (checked text plate)) (Refused 0 Lanes) → b ≡ true
+        go : (b : Bool) → Ok c ≡ cond b (checked_answer (singly text plate) runs reports lanes (checked text plate)) (Err (0, Lanes)) → b ≡ true
         go true z = refl
         go false z = let w : ◌≡◌ {A = ℕ} 0 1 = cc in absurd (omega arith)
 
@@ -114,9 +111,9 @@ module _ (runs : List Run) (reports : List ℕ) where
     unfolding written_by
     written-fits = go h.answer refl
       where
-        go : (r : Housed) → h.answer ≡ r → (h.written ≤ lanes) × (h.written ≤ 64)
-        go (Refused at x) e = let z = is.written ∙ ap (written_by lanes) e in (omega (arith, z), omega (arith, z))
-        go (Moved c) e =
+        go : (r : Result ℕ (ℕ × Refusal)) → h.answer ≡ r → (h.written ≤ lanes) × (h.written ≤ 64)
+        go (Err (at, x)) e = let z = is.written ∙ ap (written_by lanes) e in (omega (arith, z), omega (arith, z))
+        go (Ok c) e =
             let z = is.written ∙ ap (written_by lanes) e in
             let few = (drivable-is lanes (length reports) (moved-drivable c e)).few in
             (omega (arith, z), omega (arith, z))
@@ -125,16 +122,16 @@ module _ (runs : List Run) (reports : List ℕ) where
     unfolding written_by lane_after
     records-after lane = go h.answer refl
       where
-        go : (r : Housed) → h.answer ≡ r → get_or (copied h.runs runs h.written) lane no_run ≡ lane_after (singly text plate) runs reports r lane
-        go (Refused at x) e = rw (is.written, e) (copied-past h.runs runs 0 lane (omega arith))
-        go (Moved c) e = rw (is.written, e) (by (dec_lt lane lanes))
+        go : (r : Result ℕ (ℕ × Refusal)) → h.answer ≡ r → get_or (copied h.runs runs h.written) lane no_run ≡ lane_after (singly text plate) runs reports r lane
+        go (Err (at, x)) e = rw (is.written, e) (copied-past h.runs runs 0 lane (omega arith))
+        go (Ok c) e = rw (is.written, e) (by (dec_lt lane lanes))
           where
             can : drivable lanes (length reports) ≡ true
             can = moved-drivable c e
 
             by : Dec (lane < lanes) → get_or (copied h.runs runs lanes) lane no_run ≡ lane_moved (singly text plate) runs reports lane
             by (yes l) =
-                copied-below h.runs runs lanes lane l (omega arith) ∙ is.records lane ∙ ap (λ (r : Housed). lane_after (singly text plate) held reports r lane) e
+                copied-below h.runs runs lanes lane l (omega arith) ∙ is.records lane ∙ ap (λ (r : Result ℕ (ℕ × Refusal)). lane_after (singly text plate) held reports r lane) e
                 ∙ moved_same (singly text plate) held runs reports lanes (driven-same can) lane l
             by (no past) = copied-past h.runs runs lanes lane (omega arith) ∙ quiet-stays (singly text plate) runs reports lane (omega (arith, (drivable-is lanes (length reports) can).paired))
 

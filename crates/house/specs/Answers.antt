@@ -1,6 +1,6 @@
 -- The refusal table for a house's report (document 02, order 7): the condition of each answer. That each is given exactly when its condition
 -- holds is proved in proofs/AnswersExact.antt.
-use Rattle.std.specs.Prelude.{ℕ, ◌≤◌, ◌<◌, ◌≡◌, ◌⊎◌, List, length, get_or}
+use Rattle.std.specs.Prelude.{ℕ, ◌≤◌, ◌<◌, ◌≡◌, ◌⊎◌, List, length, get_or, Result, Ok, Err}
 use Rattle.search.specs.Below.{count_below}
 use Rattle.refusal.specs.declared.Refusal.{Refusal}
 use Rattle.refusal.specs.declared.Refusal.TheVariants.{Lanes, Chart as OfChart, NotSmall, Short, Plate, Choice, Position, Ever, Fault, Held, Move, Seen}
@@ -9,8 +9,6 @@ use Rattle.run.specs.Running.{no_run}
 use Rattle.run.specs.Answers.{ReportRefused}
 use Rattle.run.specs.declared.Run.{Run}
 use Rattle.house.specs.Housing.{reporting}
-use Rattle.house.specs.declared.Housed.{Housed}
-use Rattle.house.specs.declared.Housed.TheVariants.{Moved, Refused}
 
 -- "20, no lanes, over 64, or rows of unequal length"
 abbrev pub NotDrivable : (lanes reports : ℕ) → Type 0
@@ -75,6 +73,6 @@ module _ (runs : List Run) (reports text plate : List ℕ) where
       ((lane ≡ 0) × (x ≡ Lanes) × NotDrivable (length runs) (length reports))
       ⊎ (((lane ≡ 0) × Drivable (length runs) (length reports) × RefusedIs text plate x) ⊎ LowestRefused lane x)
 
-  abbrev pub HouseAnswerIs : Housed → Type 0
-  HouseAnswerIs (Moved count) = AllMove count
-  HouseAnswerIs (Refused lane x) = HouseRefused lane x
+  abbrev pub HouseAnswerIs : Result ℕ (ℕ × Refusal) → Type 0
+  HouseAnswerIs (Ok count) = AllMove count
+  HouseAnswerIs (Err (lane, x)) = HouseRefused lane x

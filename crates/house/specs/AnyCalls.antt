@@ -1,12 +1,11 @@
 -- A house and the calls that it has had, each with texts of its own (document 02, order 7): "The guarantee of order 5 then holds at each lane
 -- of the house." A call is a house's report, or a single report of one lane's run; besides, a lane may be given another run, as by a start.
-use Rattle.std.specs.Prelude.{ℕ, ◌≡◌, cond, List, [], ◌∷◌, ◌++◌, eqb, length, get_or}
+use Rattle.std.specs.Prelude.{ℕ, ◌≡◌, cond, List, [], ◌∷◌, ◌++◌, eqb, length, get_or, Result, Ok, Err}
 use Rattle.run.specs.Running.{no_run}
 use Rattle.run.specs.AnyTexts.{Report, Texts, answered}
 use Rattle.run.specs.declared.Run.{Run}
+use Rattle.refusal.specs.declared.Refusal.{Refusal}
 use Rattle.house.specs.Housing.{HouseIs, house_answer, reporting}
-use Rattle.house.specs.declared.Housed.{Housed}
-use Rattle.house.specs.declared.Housed.TheVariants.{Moved, Refused}
 
 -- a house's report, with its row of reports and its texts; a single report of the run at a lane; or any run that a lane begins anew with
 pub data Call : Type 0 where
@@ -22,7 +21,7 @@ pub record WrittenAt (runs : List Run) (lane : ℕ) (run : Run) (after : List Ru
 
 -- what a call leaves of the records: a single report's run is written where it was
 abbrev pub Step : List Run → Call → List Run → Type 0
-Step runs (house reports texts) after = (r : Housed) × HouseIs runs reports texts.chart texts.plate after r
+Step runs (house reports texts) after = (r : Result ℕ (ℕ × Refusal)) × HouseIs runs reports texts.chart texts.plate after r
 Step runs (single lane r) after = WrittenAt runs lane (answered (get_or runs lane no_run) r).run after
 Step runs (anew lane run) after = WrittenAt runs lane run after
 
@@ -44,9 +43,9 @@ KeepsAll lane (c ∷ cs) = Keeps lane c × KeepsAll lane cs
 -- The single reports that a lane has had
 
 -- of a house's report its own, if the house moved and the lane reported
-unfoldable pub own_report : Housed → (reports : List ℕ) → Texts → ℕ → List Report
-own_report (Moved count) reports texts lane = cond (reporting reports lane) (record { texts = texts; to = get_or reports lane 65535 } ∷ []) []
-own_report (Refused at x) reports texts lane = []
+unfoldable pub own_report : Result ℕ (ℕ × Refusal) → (reports : List ℕ) → Texts → ℕ → List Report
+own_report (Ok count) reports texts lane = cond (reporting reports lane) (record { texts = texts; to = get_or reports lane 65535 } ∷ []) []
+own_report (Err (at, x)) reports texts lane = []
 
 -- of a single report at the lane just this
 unfoldable pub lane_report : ℕ → List Run → Call → List Report

@@ -5,36 +5,32 @@
 ghost use Rattle.std.specs.Prelude.{◌≡◌, List, ℕ, ◌≤◌, length};
 ghost use Rattle.rows.specs.Rows.{Ascending, ChartRows};
 ghost use Rattle.plate.specs.Formed.{form_of};
-ghost use Rattle.plate.specs.declared.Form.TheVariants.{Good};
 ghost use Rattle.house.specs.Housing.{DriveIs, HouseIs, driven_lanes};
 ghost use Rattle.house.specs.Driving.{LanesDriven, RowsDriven, refused_house};
 ghost use Rattle.house.specs.Copies.{copied, no_runs};
 
-use chart::Examination;
-use checking::{Checked, check_plate};
+use checking::check_plate;
 use decode::load;
 use refusal::Refusal;
 use rows::{Chart, NONE};
-use run::{Answer, Run};
-
-// What a house's report answers: how many lanes moved; or the lowest lane that is refused with its refusal, lane 0 where the house is.
-#[derive(Clone, Copy)]
-pub enum Housed {
-    Moved(usize),
-    Refused(usize, Refusal),
-}
+use run::Run;
 
 // A house that is handed back: its records, how many of them are to be put back, 0 where it is refused, and the answer.
 #[derive(Clone, Copy)]
 pub struct House {
     pub runs: [Run; Run::LANES],
     pub written: usize,
-    pub answer: Housed,
+    pub answer: Result<usize, (usize, Refusal)>,
 }
 
 // A report of a lent house: a row of records and a row of reports, one for each lane, NONE for none. The records are taken out of the row,
 // the house is driven, and only then are they put back.
-pub fn report_house(runs: &mut [Run], reports: &[u16], text: &[u8], plate: &[u8]) -> Housed
+pub fn report_house(
+    runs: &mut [Run],
+    reports: &[u16],
+    text: &[u8],
+    plate: &[u8],
+) -> Result<usize, (usize, Refusal)>
     ensures { HouseIs runs.old reports.now text.now plate.now runs.new result }
 {
     let lanes = runs.len();
@@ -53,10 +49,8 @@ fn take_out(runs: &mut [Run], count: usize) -> [Run; Run::LANES]
     ensures { (result ≡ copied runs.old no_runs count) × (runs.new ≡ runs.old) }
 {
     let mut held = [Run::none(); Run::LANES];
-    let mut lane = 0;
-    while lane < count {
+    for lane in 0..count {
         held[lane] = runs[lane];
-        lane = lane + 1;
     }
     held
 }
@@ -66,10 +60,8 @@ fn put_back(runs: &mut [Run], held: [Run; Run::LANES], count: usize)
     requires { (count ≤ length runs.old) × (count ≤ 64) }
     ensures { runs.new ≡ copied held runs.old count }
 {
-    let mut lane = 0;
-    while lane < count {
+    for lane in 0..count {
         runs[lane] = held[lane];
-        lane = lane + 1;
     }
 }
 
@@ -99,8 +91,8 @@ pub fn drive(
         &mut froms,
         &mut tos,
     ) {
-        Examination::Refused(r) => refused(runs, 0, Refusal::Chart(r)),
-        Examination::Accepted(chart) => {
+        Err(r) => refused(runs, 0, Refusal::Chart(r)),
+        Ok(chart) => {
             let n = chart.positions;
             let m = chart.moves;
             drive_rows(
@@ -130,7 +122,7 @@ fn refused(runs: [Run; Run::LANES], lane: usize, refusal: Refusal) -> House
     House {
         runs,
         written: 0,
-        answer: Housed::Refused(lane, refusal),
+        answer: Err((lane, refusal)),
     }
 }
 
@@ -152,10 +144,8 @@ fn drive_rows(
     ensures { RowsDriven n m owners.now marks.now costs.now froms.now tos.now runs lanes reports.now plate.now result }
 {
     match check_plate(n, m, owners, marks, costs, froms, tos, plate) {
-        Checked::Refused(r) => refused(runs, 0, r),
-        Checked::Accepted => drive_lanes(
-            runs, lanes, reports, n, m, owners, costs, froms, tos, plate,
-        ),
+        Err(r) => refused(runs, 0, r),
+        Ok(()) => drive_lanes(runs, lanes, reports, n, m, owners, costs, froms, tos, plate),
     }
 }
 
@@ -172,32 +162,30 @@ fn drive_lanes(
     tos: &[u16],
     plate: &[u8],
 ) -> House
-    requires { ((marks : List ℕ) × ChartRows n m owners.now marks costs.now froms.now tos.now) × Ascending m froms.now × (form_of n plate.now ≡ Good) × (lanes ≤ 64) × (lanes ≡ length reports.now) }
+    requires { ((marks : List ℕ) × ChartRows n m owners.now marks costs.now froms.now tos.now) × Ascending m froms.now × (form_of n plate.now ≡ Ok tt) × (lanes ≤ 64) × (lanes ≡ length reports.now) }
     ensures { LanesDriven n m owners.now costs.now froms.now tos.now runs lanes reports.now plate.now result }
 {
     let mut after = runs;
     let mut moved: usize = 0;
-    let mut lane = 0;
-    while lane < lanes {
+    for lane in 0..lanes {
         let to = reports[lane];
         if to != NONE {
             let run = runs[lane];
             let reported = run.report_checked(n, m, owners, costs, froms, tos, plate, to as usize);
             let answer = reported.answer;
             match answer {
-                Answer::Refused(r) => return refused(runs, lane, r),
-                Answer::Taken(_) => {
+                Err(r) => return refused(runs, lane, r),
+                Ok(_) => {
                     let next = reported.run;
                     after[lane] = next;
                     moved = moved + 1;
                 }
             }
         }
-        lane = lane + 1;
     }
     House {
         runs: after,
         written: lanes,
-        answer: Housed::Moved(moved),
+        answer: Ok(moved),
     }
 }

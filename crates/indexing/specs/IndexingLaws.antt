@@ -2,7 +2,7 @@
 -- digit is the arena's. Then the job's answers.
 use Prim.Native.Nat.{ℕ, ◌+◌, ◌-◌, ◌^◌, ◌≤◌, ◌<◌}
 use Rattle.std.proofs.Common.{arith, ◌∙◌, true≢false, le-leb}
-use Rattle.std.specs.Prelude.{◌≡◌, ◌&&◌, List, get_or, leb}
+use Rattle.std.specs.Prelude.{◌≡◌, ◌&&◌, List, get_or, leb, Result, Ok, Err}
 use Rattle.std.proofs.Math.Path.{refl, sym, ap, subst}
 use Rattle.std.proofs.Math.Bool.{Bool, true, false, cond}
 use Rattle.std.proofs.Math.Dec.{T, eqb, not_T}
@@ -16,7 +16,6 @@ use Rattle.rows.specs.RowsLaws.{some-lines}
 use Rattle.rows.specs.declared.Chart.{Chart}
 use Rattle.chart.specs.Meaning.{arena_of}
 use Rattle.chart.specs.Examined.{examined}
-use Rattle.chart.specs.declared.Examination.TheVariants.{Accepted, Refused}
 use Rattle.refusal.specs.declared.Misdrawn.{Misdrawn}
 use Rattle.refusal.specs.declared.Refusal.TheVariants.{Chart as OfChart, NotSmall}
 use Rattle.numbering.specs.Numbering.{set_number, digit, digits, numeral, is_lane, is_move, joins, digit_at, index_of, Small}
@@ -24,9 +23,8 @@ use Rattle.numbering.proofs.SetLaws.{set_same, set-stays, set-some}
 use Rattle.numbering.proofs.DigitLaws.{numeral-same}
 use Rattle.numbering.proofs.ArenaLaws.{joins-exactly}
 use Rattle.squares.specs.Held.{SquareIs, SomeInEach, cell, held_digit, held_index, joined_below}
+use Rattle.refusal.specs.declared.Refusal.{Refusal}
 use Rattle.indexing.specs.Indexing.{is_rest, is_small, indexed_arena, indexed_by, indexed, rests_below, RowsIndexed}
-use Rattle.indexing.specs.declared.Indexed.{Indexed}
-use Rattle.indexing.specs.declared.Indexed.TheVariants.{Index, Refused as Turned}
 
 -- moves that join positions below n join positions below 3
 pub within-three : {n m : ℕ} {costs froms tos : List ℕ} → n ≤ 3 → Within n m costs froms tos → Within 3 m costs froms tos
@@ -63,15 +61,15 @@ module _ (a : Arena) (n m : ℕ) (owners marks costs froms tos : List ℕ) (d : 
   unfolding rests_below
   rests-same = some_same (λ v. eqb (get_or owners v 0) 2) (λ v. is_rest (owner_at a v)) n rest-test ∙ ap (some_below (λ v. is_rest (owner_at a v))) (sym d.positions)
 
-  pub too_many : 3 < n → Turned NotSmall ≡ indexed_arena a
+  pub too_many : 3 < n → Err NotSmall ≡ indexed_arena a
   unfolding indexed_arena is_small
   too_many l = rw (lt-leb (size a) 3 (omega (arith, d.positions)))
 
-  pub at_rest : rests_below owners n ≡ true → Turned NotSmall ≡ indexed_arena a
+  pub at_rest : rests_below owners n ≡ true → Err NotSmall ≡ indexed_arena a
   unfolding indexed_arena is_small
   at_rest r = rw (sym rests-same ∙ r) (go (leb (size a) 3))
     where
-      go : (b : Bool) → Turned NotSmall ≡ cond (b && false) (Index (index_of a)) (Turned NotSmall)
+      go : (b : Bool) → Err NotSmall ≡ cond (b && false) (Ok (index_of a)) (Err NotSmall)
       go true = refl
       go false = refl
 
@@ -122,9 +120,9 @@ module _ (a : Arena) (n m : ℕ) (owners marks costs froms tos : List ℕ) (d : 
           numeral-same (digits (2 ^ n)) (held_digit n owners marks meant disturbances) (digit_at a) n digit-same
           ∙ ap (λ (k : ℕ). numeral (digits (2 ^ k)) (digit_at a) k) (sym d.positions)
 
-      pub is-small : Index (held_index n owners marks meant disturbances) ≡ indexed_arena a
+      pub is-small : Ok (held_index n owners marks meant disturbances) ≡ indexed_arena a
       unfolding indexed_arena is_small
-      is-small = rw (le-leb (size a) 3 (omega (arith, d.positions)), sym rests-same ∙ calm) (ap Index index_same)
+      is-small = rw (le-leb (size a) 3 (omega (arith, d.positions)), sym rests-same ∙ calm) (ap Ok index_same)
 
     -- each position has a meant move
     pub some-meant : (meant : List (List Bool)) → SquareIs meant (joined_below 0 costs froms tos m) → SomeInEach n meant
@@ -136,11 +134,11 @@ module _ (a : Arena) (n m : ℕ) (owners marks costs froms tos : List ℕ) (d : 
 -- The answers
 
 module _ (text : List ℕ) where
-  pub indexed-refused : {r : Misdrawn} → examined text ≡ Refused r → Turned (OfChart r) ≡ indexed text
+  pub indexed-refused : {r : Misdrawn} → examined text ≡ Err r → Err (OfChart r) ≡ indexed text
   unfolding indexed indexed_by
   indexed-refused e = rw e
 
-  pub indexed-rows : {chart : Chart} {n m : ℕ} {owners marks costs froms tos : List ℕ} {r : Indexed} → examined text ≡ Accepted chart
+  pub indexed-rows : {chart : Chart} {n m : ℕ} {owners marks costs froms tos : List ℕ} {r : Result ℕ Refusal} → examined text ≡ Ok chart
       → RowsOf (arena_of text) n m owners marks costs froms tos → RowsIndexed n m owners marks costs froms tos r → r ≡ indexed text
   unfolding indexed indexed_by
   indexed-rows e d rows = rw e (rows.answer (arena_of text) d)
@@ -157,6 +155,6 @@ small-test a small = rw (le-leb (size a) 3 small.few, some-none (λ v. is_rest (
     calm environment h = refl
     calm nobody h = absurd (h refl)
 
-pub small-indexed : (text : List ℕ) {chart : Chart} → examined text ≡ Accepted chart → Small (arena_of text) → indexed text ≡ Index (index_of (arena_of text))
+pub small-indexed : (text : List ℕ) {chart : Chart} → examined text ≡ Ok chart → Small (arena_of text) → indexed text ≡ Ok (index_of (arena_of text))
 unfolding indexed indexed_by indexed_arena
 small-indexed text e small = rw (e, small-test (arena_of text) small)

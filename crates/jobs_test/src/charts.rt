@@ -2,21 +2,21 @@
 ghost use Rattle.std.specs.Prelude.{◌≡◌, length};
 
 use crate::writer;
-use chart::Examination;
-use refusal::Refusal;
+use refusal::{Numbers, Refusal};
 use rows::Chart;
+use std::fmt::Display;
 use std::io;
 
 // `A` with the counts, or `R` with the number and the line of the refusal.
 pub fn examine(rt: &impl Print, text: &[u8]) -> io::Result<()> {
     match chart::examine(text) {
-        Examination::Accepted(c) => {
+        Ok(c) => {
             rt.write_all(b"A")?;
             writer::field(rt, c.positions)?;
             writer::field(rt, c.moves)?;
         }
-        Examination::Refused(m) => {
-            let r = Refusal::Chart(m).numbers();
+        Err(m) => {
+            let r = Numbers::from(Refusal::from(m));
             rt.write_all(b"R")?;
             writer::field(rt, r.number as usize)?;
             writer::field(rt, r.line)?;
@@ -29,10 +29,7 @@ pub fn examine(rt: &impl Print, text: &[u8]) -> io::Result<()> {
 pub fn respond(rt: &impl Print, text: &[u8]) -> io::Result<()> {
     let mut out = [0u8; 11286];
     let size = response::respond(text, &mut out);
-    if size <= out.len() {
-        rt.write_all(&out[0..size])?;
-    }
-    Ok(())
+    rt.write_all(&out[..size.min(11286)])
 }
 
 // Document 01's chart.
@@ -41,6 +38,9 @@ fn document() -> [u8; 168]
 {
     *b"H    5    8\nO    0    0\nL    1    0\nO    2    0\nL    3    1\nO    4    0\nM    0    1\nD    0    2\nM    1    0\nM    2    0\nM    2    2\nD    2    3\nM    3    3\nM    4    4\n"
 }
+
+// Room for the longest chart, and more.
+pub type LongText = [u8; 65536];
 
 // The longest chart: 512 positions, 8 meant moves from each.
 pub fn longest(rt: &impl Print) -> io::Result<()> {
@@ -61,7 +61,7 @@ pub fn longest(rt: &impl Print) -> io::Result<()> {
 
 fn part(rt: &impl Print, name: &[u8], text: &[u8], size: usize) -> io::Result<()> {
     if size <= text.len() {
-        examine(rt, &text[0..size])?;
+        examine(rt, &text[..size])?;
         rt.write_all(b"  ")?;
         writer::name(rt, name)?;
     }
@@ -69,120 +69,93 @@ fn part(rt: &impl Print, name: &[u8], text: &[u8], size: usize) -> io::Result<()
 }
 
 // A header with these counts, n positions and 4,608 - n moves, up to 8 from each.
-pub fn fill(text: &mut [u8], n: usize, m: usize) {
+pub fn fill(text: &mut LongText, n: usize, m: usize) {
     put_line(text, 0, b'H', n, m);
-    let mut i = 1;
-    while i < 4609 {
+    for i in 1..4609 {
         fill_line(text, n, i);
-        i += 1;
     }
 }
 
-fn fill_line(text: &mut [u8], n: usize, i: usize) {
+fn fill_line(text: &mut LongText, n: usize, i: usize) {
     if i <= n {
-        put_line(text, i, b'O', before(i), 0);
+        put_line(text, i, b'O', i.saturating_sub(1), 0);
     } else {
-        let k = before(i - n);
+        let k = i - n - 1;
         put_line(text, i, b'M', k / 8, k % 8);
     }
 }
 
-fn before(i: usize) -> usize {
-    if i == 0 { 0 } else { i - 1 }
+fn put_line(text: &mut LongText, i: usize, letter: u8, a: usize, b: usize) {
+    let at = i % 5461 * 12;
+    text[at] = letter;
+    field::write((a % 100000) as u32, text, at + 1);
+    field::write((b % 100000) as u32, text, at + 6);
+    text[at + 11] = b'\n';
 }
 
-fn put_line(text: &mut [u8], i: usize, letter: u8, a: usize, b: usize) {
-    if i < 5461 {
-        let at = i * 12;
-        if at + 12 <= text.len() {
-            text[at] = letter;
-            field::write((a % 100000) as u32, text, at + 1);
-            field::write((b % 100000) as u32, text, at + 6);
-            text[at + 11] = b'\n';
+// The rows that loading fills, each of which begins with 9s.
+#[derive(Drop)]
+struct Loaded {
+    owners: [u8; Chart::POSITIONS],
+    marks: [u8; Chart::POSITIONS],
+    costs: [u8; Chart::MOVES],
+    froms: [u16; Chart::MOVES],
+    tos: [u16; Chart::MOVES],
+}
+
+impl Loaded {
+    fn of_9s() -> Loaded {
+        Loaded {
+            owners: [9; Chart::POSITIONS],
+            marks: [9; Chart::POSITIONS],
+            costs: [9; Chart::MOVES],
+            froms: [9; Chart::MOVES],
+            tos: [9; Chart::MOVES],
         }
+    }
+
+    fn load(&mut self, text: &[u8]) {
+        let _ = decode::load(
+            text,
+            &mut self.owners,
+            &mut self.marks,
+            &mut self.costs,
+            &mut self.froms,
+            &mut self.tos,
+        );
     }
 }
 
-// The rows of document 01's chart, behind which what was there stays, and that a refusal clears them: each begins with 9s.
+// The rows of document 01's chart, behind which what was there stays, and that a refusal clears them.
 pub fn rows(rt: &impl Print) -> io::Result<()> {
-    let mut owners = [9u8; Chart::POSITIONS];
-    let mut marks = [9u8; Chart::POSITIONS];
-    let mut costs = [9u8; Chart::MOVES];
-    let mut froms = [9u16; Chart::MOVES];
-    let mut tos = [9u16; Chart::MOVES];
-    decode::load(
-        &document(),
-        &mut owners,
-        &mut marks,
-        &mut costs,
-        &mut froms,
-        &mut tos,
-    );
-    bytes(rt, b"  owners", &owners, 6)?;
-    bytes(rt, b"  marks", &marks, 6)?;
-    bytes(rt, b"  costs", &costs, 9)?;
-    numbers(rt, b"  froms", &froms, 9)?;
-    numbers(rt, b"  tos", &tos, 9)?;
-    decode::load(
-        b"H    1    1\n",
-        &mut owners,
-        &mut marks,
-        &mut costs,
-        &mut froms,
-        &mut tos,
-    );
-    bytes(rt, b"  owners after a refusal", &owners, 6)?;
-    numbers(rt, b"  tos after a refusal", &tos, 2)
+    let mut rows = Loaded::of_9s();
+    rows.load(&document());
+    show_row(rt, b"  owners", &rows.owners[..6])?;
+    show_row(rt, b"  marks", &rows.marks[..6])?;
+    show_row(rt, b"  costs", &rows.costs[..9])?;
+    show_row(rt, b"  froms", &rows.froms[..9])?;
+    show_row(rt, b"  tos", &rows.tos[..9])?;
+    rows.load(b"H    1    1\n");
+    show_row(rt, b"  owners after a refusal", &rows.owners[..6])?;
+    show_row(rt, b"  tos after a refusal", &rows.tos[..2])
 }
 
-// The rows of a chart with a position of rest, which begin with 9s too.
+// The rows of a chart with a position of rest.
 pub fn resting_rows(rt: &impl Print) -> io::Result<()> {
-    let mut owners = [9u8; Chart::POSITIONS];
-    let mut marks = [9u8; Chart::POSITIONS];
-    let mut costs = [9u8; Chart::MOVES];
-    let mut froms = [9u16; Chart::MOVES];
-    let mut tos = [9u16; Chart::MOVES];
-    decode::load(
+    let mut rows = Loaded::of_9s();
+    rows.load(
         b"H    3    3\nL    0    0\nR    1    0\nO    2    1\nM    0    1\nD    1    2\nM    2    2\n",
-        &mut owners,
-        &mut marks,
-        &mut costs,
-        &mut froms,
-        &mut tos,
     );
-    bytes(rt, b"  owners, one of rest", &owners, 4)?;
-    bytes(rt, b"  costs", &costs, 4)?;
-    numbers(rt, b"  froms", &froms, 4)?;
-    numbers(rt, b"  tos", &tos, 4)
+    show_row(rt, b"  owners, one of rest", &rows.owners[..4])?;
+    show_row(rt, b"  costs", &rows.costs[..4])?;
+    show_row(rt, b"  froms", &rows.froms[..4])?;
+    show_row(rt, b"  tos", &rows.tos[..4])
 }
 
-// The first `count` numbers of a row.
-fn bytes(rt: &impl Print, name: &[u8], row: &[u8], count: usize) -> io::Result<()> {
-    let mut i = 0;
-    while i < count {
-        if i < row.len() {
-            print_byte(rt, row[i])?;
-        }
-        i += 1;
+// The numbers of a row, and under which name.
+fn show_row<T: Copy + Display + Drop>(rt: &impl Print, name: &[u8], row: &[T]) -> io::Result<()> {
+    for x in row {
+        rt.print(*x)?;
     }
     writer::name(rt, name)
-}
-
-fn numbers(rt: &impl Print, name: &[u8], row: &[u16], count: usize) -> io::Result<()> {
-    let mut i = 0;
-    while i < count {
-        if i < row.len() {
-            print_number(rt, row[i])?;
-        }
-        i += 1;
-    }
-    writer::name(rt, name)
-}
-
-fn print_byte(rt: &impl Print, x: u8) -> io::Result<()> {
-    rt.print(x)
-}
-
-fn print_number(rt: &impl Print, x: u16) -> io::Result<()> {
-    rt.print(x)
 }

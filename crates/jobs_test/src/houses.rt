@@ -4,12 +4,11 @@
 // many records are to be put back. Under the name stands each of the 64 lanes that has a run, with the run's four numbers.
 ghost use Rattle.std.specs.Prelude.{◌≤◌};
 
-use crate::plates::{fill_row, part};
-use crate::runs::number;
-use crate::{runs, writer};
-use field::read;
-use house::{House, Housed, drive};
-use run::{Run, Started};
+use crate::plates::{part, row_of};
+use crate::writer::number;
+use crate::{Texts, runs, writer};
+use house::{House, drive};
+use run::Run;
 use std::io;
 
 pub type Lanes = [Run; Run::LANES];
@@ -20,65 +19,52 @@ pub fn empty() -> Lanes {
 }
 
 // A step's answer and name, and the lanes after it.
-pub fn show(
-    rt: &impl Print,
-    chart: &[u8],
-    plate: &[u8],
-    words: &[u8],
-    name: &[u8],
-    run: Run,
-    lanes: Lanes,
-) -> io::Result<Lanes> {
-    let after = step(rt, chart, plate, words, run, lanes)?;
+pub fn show(rt: &impl Print, texts: Texts, run: Run, lanes: Lanes) -> io::Result<Lanes> {
+    let after = step(rt, texts, run, lanes)?;
     rt.write_all(b"  ")?;
-    writer::name(rt, name)?;
+    writer::name(rt, texts.name)?;
     show_lanes(rt, after)?;
     Ok(after)
 }
 
-fn step(
-    rt: &impl Print,
-    chart: &[u8],
-    plate: &[u8],
-    words: &[u8],
-    run: Run,
-    lanes: Lanes,
-) -> io::Result<Lanes> {
+fn step(rt: &impl Print, texts: Texts, run: Run, lanes: Lanes) -> io::Result<Lanes> {
+    let words = texts.words;
     if words.len() < 6 {
         return Ok(lanes);
     }
-    if words[0] == b'S' {
-        rt.write_all(b"S")?;
-        return Ok(start(chart, plate, words));
+    let x = number(words, 1, usize::MAX);
+    match words[0] {
+        b'S' => {
+            rt.write_all(b"S")?;
+            Ok(start(texts))
+        }
+        b'P' => {
+            rt.write_all(b"P")?;
+            Ok(put(lanes, x, run))
+        }
+        _ => report(rt, texts, x, &words[6..], lanes),
     }
-    let x = number(read(words, 1));
-    if words[0] == b'P' {
-        rt.write_all(b"P")?;
-        return Ok(put(lanes, x, run));
-    }
-    report(rt, chart, plate, x, &words[6..], lanes)
 }
 
-fn start(chart: &[u8], plate: &[u8], words: &[u8]) -> Lanes {
+fn start(texts: Texts) -> Lanes {
     let mut lanes = empty();
-    let mut lane: usize = 0;
-    while lane < Run::LANES {
-        lanes[lane] = start_lane(chart, plate, words, lane * 5 + 1);
-        lane += 1;
+    for lane in 0..Run::LANES {
+        lanes[lane] = start_lane(texts, lane * 5 + 1);
     }
     lanes
 }
 
 // A run at the position at `at`, or none.
-fn start_lane(chart: &[u8], plate: &[u8], words: &[u8], at: usize) -> Run
+fn start_lane(texts: Texts, at: usize) -> Run
     requires { at ≤ 316 }
 {
-    if words.len() < at + 5 {
+    if texts.words.len() < at + 5 {
         return Run::none();
     }
-    match Run::start(chart, plate, number(read(words, at))) {
-        Started::Begun(run, _) => run,
-        Started::Refused(_) => Run::none(),
+    let position = number(texts.words, at, usize::MAX);
+    match Run::start(texts.chart, texts.plate, position) {
+        Ok((run, _)) => run,
+        Err(_) => Run::none(),
     }
 }
 
@@ -92,50 +78,44 @@ fn put(lanes: Lanes, lane: usize, run: Run) -> Lanes {
 
 fn report(
     rt: &impl Print,
-    chart: &[u8],
-    plate: &[u8],
+    texts: Texts,
     count: usize,
     fields: &[u8],
     lanes: Lanes,
 ) -> io::Result<Lanes> {
-    let mut row = [0u16; 66];
-    fill_row(fields, &mut row);
-    answer(
-        rt,
-        drive(lanes, count, part(&row, fields.len() / 5), chart, plate),
-    )
+    let row = row_of(fields);
+    let reports = part(&row, fields);
+    answer(rt, drive(lanes, count, reports, texts.chart, texts.plate))
 }
 
 fn answer(rt: &impl Print, house: House) -> io::Result<Lanes> {
     let lanes = house.runs;
     let answer = house.answer;
     match answer {
-        Housed::Moved(count) => {
+        Ok(count) => {
             rt.write_all(b"A")?;
             runs::show(rt, count as u64)?;
         }
-        Housed::Refused(lane, refusal) => {
+        Err((lane, refusal)) => {
             runs::refused(rt, refusal)?;
             rt.write_all(b" at")?;
             runs::show(rt, lane as u64)?;
         }
     }
     rt.write_all(b" of")?;
-    runs::show(rt, house.written as u64)?;
+    runs::show(rt, house.written)?;
     Ok(lanes)
 }
 
 fn show_lanes(rt: &impl Print, lanes: Lanes) -> io::Result<()> {
-    let mut lane: usize = 0;
-    while lane < Run::LANES {
-        show_lane(rt, lane, lanes[lane])?;
-        lane += 1;
+    for (lane, run) in lanes.iter().enumerate() {
+        show_lane(rt, lane, *run)?;
     }
     rt.write_all(b"\n")
 }
 
 fn show_lane(rt: &impl Print, lane: usize, run: Run) -> io::Result<()> {
-    let nowhere = run.position() == 18446744073709551615;
+    let nowhere = run.position() == usize::MAX;
     if nowhere & (run.seen() == 0) & (run.initial() == 0) & (run.value() == 0) {
         return Ok(());
     }

@@ -37,6 +37,15 @@ struct Held {
     lanes: Lanes,
 }
 
+// A case's texts: its name without the letter, and the three that its job takes.
+#[derive(Clone, Copy)]
+pub struct Texts<'a> {
+    name: &'a [u8],
+    chart: &'a [u8],
+    plate: &'a [u8],
+    words: &'a [u8],
+}
+
 // The input is longer than 65,536 bytes.
 fn main(rt: HostRuntime) -> io::Result<()> {
     let mut input = [0u8; 262144];
@@ -56,12 +65,10 @@ fn cases(rt: &impl Print, input: &[u8]) -> io::Result<()> {
         run: Run::none(),
         lanes: houses::empty(),
     };
-    let mut k: usize = 0;
-    while k < 2000 {
+    for _ in 0..2000 {
         let next = show_case(rt, input, case_at(input, at), held)?;
         at = next.at;
         held = next.held;
-        k += 1;
     }
     Ok(())
 }
@@ -70,25 +77,29 @@ fn cases(rt: &impl Print, input: &[u8]) -> io::Result<()> {
 fn show_case(rt: &impl Print, input: &[u8], c: Case, held: Held) -> io::Result<Next>
     requires { Ordered (length input.now) c }
 {
-    let name = c.name;
-    let first = c.first;
-    let second = c.second;
-    let third = c.third;
-    let end = c.end;
+    let Case {
+        name,
+        first,
+        second,
+        third,
+        end,
+    } = c;
     if input.len() <= end {
         return Ok(Next {
             at: input.len(),
             held,
         });
     }
-    let after = show(
-        rt,
-        &input[name..first],
-        &input[first..second],
-        &input[second..third],
-        &input[third..end],
-        held,
-    )?;
+    let mut after = held;
+    if let Some((job, rest)) = input[name..first].split_first() {
+        let texts = Texts {
+            name: rest,
+            chart: &input[first..second],
+            plate: &input[second..third],
+            words: &input[third..end],
+        };
+        after = show(rt, *job, texts, held)?;
+    }
     Ok(Next {
         at: end + 1,
         held: after,
@@ -96,76 +107,36 @@ fn show_case(rt: &impl Print, input: &[u8], c: Case, held: Held) -> io::Result<N
 }
 
 // The answer and the name; a plate, a sheet or lanes stand under its name. Answers what is held after the case.
-fn show(
-    rt: &impl Print,
-    name: &[u8],
-    chart: &[u8],
-    plate: &[u8],
-    words: &[u8],
-    held: Held,
-) -> io::Result<Held> {
-    if name.len() == 0 {
-        return Ok(held);
+fn show(rt: &impl Print, job: u8, texts: Texts, held: Held) -> io::Result<Held> {
+    let mut after = held;
+    match job {
+        b'W' => {
+            writer::name(rt, texts.name)?;
+            charts::respond(rt, texts.chart)?;
+        }
+        b'G' => sheets::list(rt, texts)?,
+        b'P' => ways::list(rt, texts)?,
+        b'V' => values::show(rt, texts)?,
+        b'N' => small::generate(rt, texts)?,
+        b'H' => after.lanes = houses::show(rt, texts, held.run, held.lanes)?,
+        _ => {
+            after.run = answer(rt, job, texts, held.run)?;
+            rt.write_all(b"  ")?;
+            writer::name(rt, texts.name)?;
+        }
     }
-    let job = name[0];
-    let run = held.run;
-    let lanes = held.lanes;
-    if job == b'W' {
-        writer::name(rt, &name[1..])?;
-        charts::respond(rt, chart)?;
-        return Ok(held);
-    }
-    if job == b'G' {
-        sheets::list(rt, chart, words, &name[1..])?;
-        return Ok(held);
-    }
-    if job == b'P' {
-        ways::list(rt, chart, plate, words, &name[1..])?;
-        return Ok(held);
-    }
-    if job == b'V' {
-        values::show(rt, chart, words, &name[1..])?;
-        return Ok(held);
-    }
-    if job == b'N' {
-        small::generate(rt, words, &name[1..])?;
-        return Ok(held);
-    }
-    if job == b'H' {
-        let lanes = houses::show(rt, chart, plate, words, &name[1..], run, lanes)?;
-        return Ok(Held { run, lanes });
-    }
-    let run = answer(rt, job, chart, plate, words, run)?;
-    rt.write_all(b"  ")?;
-    writer::name(rt, &name[1..])?;
-    Ok(Held { run, lanes })
+    Ok(after)
 }
 
-fn answer(
-    rt: &impl Print,
-    job: u8,
-    chart: &[u8],
-    plate: &[u8],
-    words: &[u8],
-    run: Run,
-) -> io::Result<Run> {
-    if job == b'S' {
-        return runs::step(rt, chart, plate, words, run);
-    }
-    if job == b'E' {
-        charts::examine(rt, chart)?;
-    }
-    if job == b'C' {
-        plates::check(rt, chart, plate)?;
-    }
-    if job == b'R' {
-        plates::read(rt, chart, plate)?;
-    }
-    if job == b'D' {
-        plates::compare(rt, chart, plate, words)?;
-    }
-    if job == b'I' {
-        small::index(rt, chart)?;
+fn answer(rt: &impl Print, job: u8, texts: Texts, run: Run) -> io::Result<Run> {
+    match job {
+        b'S' => return runs::step(rt, texts, run),
+        b'E' => charts::examine(rt, texts.chart)?,
+        b'C' => plates::check(rt, texts.chart, texts.plate)?,
+        b'R' => plates::read(rt, texts.chart, texts.plate)?,
+        b'D' => plates::compare(rt, texts)?,
+        b'I' => small::index(rt, texts.chart)?,
+        _ => {}
     }
     Ok(run)
 }

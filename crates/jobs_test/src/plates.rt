@@ -1,13 +1,13 @@
 // Plates: Checking, Reading and Comparing.
 ghost use Rattle.std.specs.Prelude.{◌≤◌};
 
-use crate::writer;
-use checking::Checked;
-use comparing::Compared;
-use field::Field;
-use reading::{Reading, read_plate};
+use crate::writer::number;
+use crate::{Texts, writer};
+use comparing::Difference;
+use reading::read_plate;
+use refusal::{Numbers, Refusal};
+use rows::FirstLine;
 use std::io;
-use writing::Written;
 
 // Room for a row of choices, or of a house's reports.
 pub type Row = [u16; 66];
@@ -15,21 +15,19 @@ pub type Row = [u16; 66];
 // `A`, or the refusal.
 pub fn check(rt: &impl Print, text: &[u8], plate: &[u8]) -> io::Result<()> {
     match checking::check(text, plate) {
-        Checked::Accepted => writer::four(rt, b"A", 0, 0, 0, 0)?,
-        Checked::Refused(refusal) => writer::refused(rt, refusal)?,
+        Ok(()) => writer::four(rt, b"A", 0, 0, 0, 0)?,
+        Err(refusal) => writer::refused(rt, refusal)?,
     }
     Ok(())
 }
 
 // A plate of a chart, or of the one with one position where no chart is given.
 pub fn read(rt: &impl Print, plate: &[u8], chart: &[u8]) -> io::Result<()> {
-    if chart.len() == 0 {
-        read_of(rt, b"H    1    1\nO    0    0\nM    0    0\n", plate)?;
-    } else {
-        read_of(rt, chart, plate)?;
-    }
-    Ok(())
+    let given = if chart.is_empty() { SMALLEST } else { chart };
+    read_of(rt, given, plate)
 }
+
+const SMALLEST: &[u8] = b"H    1    1\nO    0    0\nM    0    0\n";
 
 // A plate into rows that hold 7: `A` with rounds, highest value and count of "ever", or `R` with the number and the line of the refusal;
 // then the first two values, choices and steps.
@@ -44,15 +42,15 @@ fn read_of(rt: &impl Print, chart: &[u8], plate: &[u8]) -> io::Result<()> {
     numbers(rt, steps[0], steps[1])
 }
 
-fn answer(rt: &impl Print, r: Reading) -> io::Result<()> {
+fn answer(rt: &impl Print, r: Result<FirstLine, Refusal>) -> io::Result<()> {
     match r {
-        Reading::Rows(h) => {
+        Ok(h) => {
             rt.write_all(b"A")?;
             numbers(rt, h.rounds, h.highest)?;
             writer::column(rt, h.evers as usize)?;
         }
-        Reading::Refused(f) => {
-            let r = f.numbers();
+        Err(f) => {
+            let r = Numbers::from(f);
             rt.write_all(b"R")?;
             writer::column(rt, r.number as usize)?;
             writer::column(rt, r.line)?;
@@ -62,8 +60,8 @@ fn answer(rt: &impl Print, r: Reading) -> io::Result<()> {
 }
 
 fn numbers(rt: &impl Print, a: u16, b: u16) -> io::Result<()> {
-    writer::column(rt, a as usize)?;
-    writer::column(rt, b as usize)
+    writer::column(rt, usize::from(a))?;
+    writer::column(rt, usize::from(b))
 }
 
 // The chart's refusal comes before a short row, and that before a bad plate.
@@ -75,73 +73,42 @@ pub fn rows(rt: &impl Print) -> io::Result<()> {
     rt.write_all(b"  no chart\n")?;
     answer(
         rt,
-        read_plate(
-            b"H    1    1\nO    0    0\nM    0    0\n",
-            b"",
-            &mut full,
-            &mut other,
-            &mut none,
-        ),
+        read_plate(SMALLEST, b"", &mut full, &mut other, &mut none),
     )?;
     rt.write_all(b"  a row short\n")
 }
 
 // The answer for a chart, a plate and a row of choices.
-pub fn compare(rt: &impl Print, text: &[u8], plate: &[u8], fields: &[u8]) -> io::Result<()> {
-    let mut row = [0u16; 66];
-    fill_row(fields, &mut row);
-    let choices = part(&row, fields.len() / 5);
-    if plate.len() == 1 {
-        compare_written(rt, text, choices)?;
+pub fn compare(rt: &impl Print, texts: Texts) -> io::Result<()> {
+    let row = row_of(texts.words);
+    let choices = part(&row, texts.words);
+    if texts.plate.len() == 1 {
+        compare_written(rt, texts.chart, choices)
     } else {
-        difference(rt, text, plate, choices)?;
+        difference(rt, texts.chart, texts.plate, choices)
     }
-    Ok(())
 }
 
 // The numbers of a row, a field for each, and 0 past its end.
-pub fn fill_row(fields: &[u8], row: &mut Row) {
-    let mut v: usize = 0;
-    while v < 66 {
-        row[v] = entry(fields, v * 5);
-        v += 1;
+pub fn row_of(fields: &[u8]) -> Row {
+    let mut row = [0; 66];
+    for v in 0..66 {
+        row[v] = (number(fields, v * 5, 0) % 65536) as u16;
     }
+    row
 }
 
-// The first numbers of a row.
-pub fn part(row: &Row, count: usize) -> &[u16] {
-    front(row, count)
-}
-
-fn front(row: &[u16], count: usize) -> &[u16] {
-    if count <= row.len() {
-        &row[0..count]
-    } else {
-        row
-    }
-}
-
-// The number at `at`, 0 past the row's end.
-fn entry(fields: &[u8], at: usize) -> u16
-    requires { at ≤ 325 }
-{
-    if fields.len() < at + 5 {
-        return 0;
-    }
-    match field::read(fields, at) {
-        Field::Number(x) => (x % 65536) as u16,
-        Field::Blank => 0,
-        Field::Bad => 0,
-    }
+// A row's numbers up to the end of its fields.
+pub fn part<'a>(row: &'a Row, fields: &[u8]) -> &'a [u16] {
+    let count = fields.len() / 5;
+    &row[..count.min(66)]
 }
 
 // The answer with the plate that Writing makes.
 fn compare_written(rt: &impl Print, text: &[u8], choices: &[u16]) -> io::Result<()> {
     let mut plate = [0u8; 132];
-    if let Written::Length(k) = writing::write_plate(text, &mut plate) {
-        if k <= 132 {
-            difference(rt, text, &plate[0..k], choices)?;
-        }
+    if let Ok(k) = writing::write_plate(text, &mut plate) {
+        difference(rt, text, &plate[..k.min(132)], choices)?;
     }
     Ok(())
 }
@@ -149,16 +116,17 @@ fn compare_written(rt: &impl Print, text: &[u8], choices: &[u16]) -> io::Result<
 // `A` where the rows agree, `D` with position, value and worth of the first difference, or the refusal.
 fn difference(rt: &impl Print, text: &[u8], plate: &[u8], choices: &[u16]) -> io::Result<()> {
     match comparing::compare(text, plate, choices) {
-        Compared::Agree => writer::four(rt, b"A", 0, 0, 0, 0)?,
-        Compared::Differ(v, value, worth) => writer::four(
-            rt,
-            b"D",
-            v,
-            value as usize,
-            worth as usize,
-            0,
-        )?,
-        Compared::Refused(refusal) => writer::refused(rt, refusal)?,
+        Ok(None) => writer::four(rt, b"A", 0, 0, 0, 0)?,
+        Ok(
+            Some(
+                Difference {
+                    position: v,
+                    value,
+                    worth,
+                },
+            ),
+        ) => writer::four(rt, b"D", v, value as usize, worth as usize, 0)?,
+        Err(refusal) => writer::refused(rt, refusal)?,
     }
     Ok(())
 }

@@ -1,28 +1,25 @@
 // Small charts: the chart of an index into a buffer of a given length, and the index of a chart.
-use crate::runs::number;
 use crate::sheets::{room, show};
-use crate::{runs, writer};
-use field::read;
+use crate::writer::number;
+use crate::{Texts, runs, writer};
 use generating::write_small_chart;
-use indexing::{Indexed, index_small_chart};
+use indexing::index_small_chart;
+use refusal::Refusal;
 use std::io;
-use writing::Written;
 
 // `A` with the length, or the refusal with its four numbers; under the name the whole lent buffer. The case's third text has the count of
 // positions, the index in two fields, its hundred thousands and the rest, and the buffer's length. `max` is the largest number.
-pub fn generate(rt: &impl Print, words: &[u8], name: &[u8]) -> io::Result<()> {
+pub fn generate(rt: &impl Print, texts: Texts) -> io::Result<()> {
     let mut buffer = [b'#'; 288];
-    if words.len() < 20 {
+    let words = texts.words;
+    let positions = number(words, 0, usize::MAX);
+    let index = joined(number(words, 5, usize::MAX), number(words, 10, usize::MAX));
+    // A longer room gets no answer.
+    let Some(lent) = buffer.get_mut(..room(words, 15)) else {
         return Ok(());
-    }
-    generate_into(
-        rt,
-        number(read(words, 0)),
-        joined(number(read(words, 5)), number(read(words, 10))),
-        &mut buffer,
-        room(&words[15..]),
-        name,
-    )
+    };
+    answer(rt, write_small_chart(positions, index, lent))?;
+    show(rt, texts.name, lent)
 }
 
 // A number in two fields.
@@ -33,32 +30,13 @@ fn joined(thousands: usize, rest: usize) -> usize {
     thousands * 100000 + rest % 100000
 }
 
-// The answer for so much of a buffer. A longer room gets none.
-fn generate_into(
-    rt: &impl Print,
-    positions: usize,
-    index: usize,
-    buffer: &mut [u8],
-    room: usize,
-    name: &[u8],
-) -> io::Result<()> {
-    if buffer.len() < room {
-        return Ok(());
-    }
-    answer(
-        rt,
-        write_small_chart(positions, index, &mut buffer[0..room]),
-    )?;
-    show(rt, name, &buffer[0..room])
-}
-
-fn answer(rt: &impl Print, r: Written) -> io::Result<()> {
+fn answer(rt: &impl Print, r: Result<usize, Refusal>) -> io::Result<()> {
     match r {
-        Written::Length(length) => {
+        Ok(length) => {
             rt.write_all(b"A")?;
             writer::field(rt, length)?;
         }
-        Written::Refused(refusal) => writer::refused(rt, refusal)?,
+        Err(refusal) => writer::refused(rt, refusal)?,
     }
     rt.write_all(b"  ")
 }
@@ -66,11 +44,11 @@ fn answer(rt: &impl Print, r: Written) -> io::Result<()> {
 // `A` with the index, or the refusal with its four numbers.
 pub fn index(rt: &impl Print, text: &[u8]) -> io::Result<()> {
     match index_small_chart(text) {
-        Indexed::Index(x) => {
+        Ok(x) => {
             rt.write_all(b"A")?;
             runs::show(rt, x as u64)?;
         }
-        Indexed::Refused(refusal) => writer::refused(rt, refusal)?,
+        Err(refusal) => writer::refused(rt, refusal)?,
     }
     Ok(())
 }

@@ -1,6 +1,22 @@
-// What the test writes: a letter and numbers in columns of five or six bytes, and a case's name.
-use refusal::Refusal;
+// What the test writes: a letter and numbers in columns of five or six bytes, and a case's name; and the numbers that it reads.
+ghost use Rattle.std.specs.Prelude.{◌≤◌};
+
+use field::Field;
+use refusal::{Numbers, Refusal};
 use std::io;
+
+// The number of the field at `at`; `otherwise` where the text ends before, or no number stands there.
+pub fn number(text: &[u8], at: usize, otherwise: usize) -> usize
+    requires { at ≤ 325 }
+{
+    if text.len() < at + 5 {
+        return otherwise;
+    }
+    match field::read(text, at) {
+        Field::Number(x) => x as usize,
+        Field::Blank | Field::Bad => otherwise,
+    }
+}
 
 pub fn name(rt: &impl Print, name: &[u8]) -> io::Result<()> {
     rt.write_all(name)?;
@@ -37,7 +53,7 @@ pub fn four(
 
 // A refusal with its number, line, position and condition.
 pub fn refused(rt: &impl Print, refusal: Refusal) -> io::Result<()> {
-    let r = refusal.numbers();
+    let r = Numbers::from(refusal);
     four(
         rt,
         b"R",

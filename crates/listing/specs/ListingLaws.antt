@@ -1,5 +1,5 @@
 -- The lines of the moves that the rows' test picks are the arena's sheet, and the job's answers.
-use Rattle.std.specs.Prelude.{ℕ, ◌*◌, ◌≤◌, ◌<◌, refl, true, false, length, get_or, leb}
+use Rattle.std.specs.Prelude.{ℕ, ◌*◌, ◌≤◌, ◌<◌, refl, true, false, length, get_or, leb, Result, Ok, Err}
 use Rattle.std.proofs.Common.{arith, ◌∙◌}
 use Rattle.std.proofs.Math.Path.{◌≡◌, sym, ap, ap₂}
 use mathlib.Core.List.{List, [], ◌∷◌, ◌++◌}
@@ -19,7 +19,6 @@ use Rattle.game.specs.Table.{round_value}
 use Rattle.game.specs.GoodMoves.{holds_value, good_move, good_moves}
 use Rattle.chart.specs.Meaning.{arena_of}
 use Rattle.chart.specs.Examined.{examined}
-use Rattle.chart.specs.declared.Examination.TheVariants.{Accepted, Refused}
 use Rattle.refusal.specs.declared.Misdrawn.{Misdrawn}
 use Rattle.refusal.specs.declared.Refusal.TheVariants.{Chart as OfChart, Short}
 use Rattle.solver.specs.Solving.{Solved}
@@ -27,9 +26,8 @@ use Rattle.valuing.specs.ValuingLaws.{round-value-fits}
 use Rattle.good_moves.specs.Picking.{is_good, Picked}
 use Rattle.sheet_lines.specs.Lines.{pair_lines}
 use Rattle.listing.specs.Sheet.{good_line}
+use Rattle.refusal.specs.declared.Refusal.{Refusal}
 use Rattle.listing.specs.Listing.{good_count, good_sheet, listed_rows, listed_by, listed, RowsListed, ListedIs}
-use Rattle.listing.specs.declared.Listed.{Listed}
-use Rattle.listing.specs.declared.Listed.TheVariants.{Lines, Refused as Turned}
 
 module _ {n m : ℕ} {owners marks costs froms tos values₀ values steps₀ steps positions targets : List ℕ} {count : ℕ}
     (solved : Solved n m owners marks costs froms tos values₀ steps₀ values steps)
@@ -80,7 +78,7 @@ module _ {n m : ℕ} {owners marks costs froms tos values₀ values steps₀ ste
         (λ j l. ap₂ (λ (x y : ℕ). line_text 71 (Number x ∷ Number y ∷ [])) (column (λ x. x.from) froms positions d.from picked.position j l) (column (λ x. x.to) tos targets d.to picked.target j l))
         ∙ ap (joined (λ i. good_line (get_or (good_moves a) i no_move))) count-is
 
-  pub rows_short : {out : List ℕ} → leb (count * 12) (length out) ≡ false → RowsListed n m owners marks costs froms tos out out (Turned Short)
+  pub rows_short : {out : List ℕ} → leb (count * 12) (length out) ≡ false → RowsListed n m owners marks costs froms tos out out (Err Short)
   unfolding listed_rows
   rows_short {out} short = record {
     answer = λ a d. rw (← count-is a d, short);
@@ -89,7 +87,7 @@ module _ {n m : ℕ} {owners marks costs froms tos values₀ values steps₀ ste
   }
 
   pub rows-listed : {out out' : List ℕ} → leb (count * 12) (length out) ≡ true → out' ≡ pair_lines 71 positions targets count ++ drop (count * 12) out
-      → RowsListed n m owners marks costs froms tos out out' (Lines count)
+      → RowsListed n m owners marks costs froms tos out out' (Ok count)
   unfolding listed_rows
   rows-listed {out} {out'} room bytes = record {
     answer = λ a d. rw (← count-is a d, room);
@@ -100,7 +98,7 @@ module _ {n m : ℕ} {owners marks costs froms tos values₀ values steps₀ ste
 -- The answers
 
 module _ {text out : List ℕ} where
-  pub listed-refused : {r : Misdrawn} → examined text ≡ Refused r → ListedIs text out out (Turned (OfChart r))
+  pub listed-refused : {r : Misdrawn} → examined text ≡ Err r → ListedIs text out out (Err (OfChart r))
   unfolding listed listed_by
   listed-refused {r} e = record {
     answer = rw e;
@@ -108,7 +106,7 @@ module _ {text out : List ℕ} where
     refused = λ x z. refl;
   }
 
-  pub listed-rows : {chart : Chart} {n m : ℕ} {owners marks costs froms tos out' : List ℕ} {r : Listed} → examined text ≡ Accepted chart
+  pub listed-rows : {chart : Chart} {n m : ℕ} {owners marks costs froms tos out' : List ℕ} {r : Result ℕ Refusal} → examined text ≡ Ok chart
       → RowsOf (arena_of text) n m owners marks costs froms tos → RowsListed n m owners marks costs froms tos out out' r → ListedIs text out out' r
   unfolding listed listed_by
   listed-rows e d rows = record { answer = rw e (rows.answer (arena_of text) d); taken = rows.taken (arena_of text) d; refused = rows.refused }

@@ -4,7 +4,6 @@
 ghost use Rattle.rows.specs.Rows.{ChartRows};
 ghost use Rattle.listing.specs.Listing.{ListedIs, RowsListed};
 
-use chart::Examination;
 use decode::load;
 use filed::solve_filed;
 use good_moves::pick_good;
@@ -12,15 +11,9 @@ use refusal::Refusal;
 use rows::Chart;
 use sheet_lines::write_lines;
 
-// What Listing answers: the count of lines, or a refusal: the chart's, or 10 for a buffer that the lines do not fit.
-#[derive(Clone, Copy)]
-pub enum Listed {
-    Lines(usize),
-    Refused(Refusal),
-}
-
-// Writes the sheet of a chart's good moves into a lent buffer. What lies past its last line stays, and on a refusal everything does.
-pub fn list_good_moves(text: &[u8], sheet: &mut [u8]) -> Listed
+// Writes the sheet of a chart's good moves into a lent buffer, and answers the count of lines, or a refusal: the chart's, or 10 for a buffer
+// that the lines do not fit. What lies past its last line stays, and on a refusal everything does.
+pub fn list_good_moves(text: &[u8], sheet: &mut [u8]) -> Result<usize, Refusal>
     ensures { ListedIs text.now sheet.old sheet.new result }
 {
     let mut owners = [0u8; Chart::POSITIONS];
@@ -28,26 +21,24 @@ pub fn list_good_moves(text: &[u8], sheet: &mut [u8]) -> Listed
     let mut costs = [0u8; Chart::MOVES];
     let mut froms = [0u16; Chart::MOVES];
     let mut tos = [0u16; Chart::MOVES];
-    match load(
+    let chart = load(
         text,
         &mut owners,
         &mut marks,
         &mut costs,
         &mut froms,
         &mut tos,
-    ) {
-        Examination::Refused(r) => Listed::Refused(Refusal::Chart(r)),
-        Examination::Accepted(chart) => list_rows(
-            chart.positions,
-            chart.moves,
-            &owners,
-            &marks,
-            &costs,
-            &froms,
-            &tos,
-            sheet,
-        ),
-    }
+    )?;
+    list_rows(
+        chart.positions,
+        chart.moves,
+        &owners,
+        &marks,
+        &costs,
+        &froms,
+        &tos,
+        sheet,
+    )
 }
 
 // Values rows that hold a chart, and writes the lines of their good moves, if these fit.
@@ -60,7 +51,7 @@ fn list_rows(
     froms: &[u16],
     tos: &[u16],
     sheet: &mut [u8],
-) -> Listed
+) -> Result<usize, Refusal>
     requires { ChartRows n m owners.now marks.now costs.now froms.now tos.now }
     ensures { RowsListed n m owners.now marks.now costs.now froms.now tos.now sheet.old sheet.new result }
 {
@@ -91,8 +82,8 @@ fn list_rows(
         &mut targets,
     );
     if sheet.len() < lines * Chart::LINE {
-        return Listed::Refused(Refusal::Short);
+        return Err(Refusal::Short);
     }
     write_lines(b'G', lines, &positions, &targets, sheet);
-    Listed::Lines(lines)
+    Ok(lines)
 }

@@ -54,17 +54,7 @@ fn first_from(v: usize, m: usize, froms: &[u16]) -> usize
     requires { (m ≤ 4096) × (m ≤ length froms.now) × Ascending m froms.now }
     ensures { FirstFrom m froms.now v result }
 {
-    let mut low: usize = 0;
-    let mut high = m;
-    while low < high {
-        let middle = (low + high) / 2;
-        if (froms[middle] as usize) < v {
-            low = middle + 1;
-        } else {
-            high = middle;
-        }
-    }
-    low
+    froms[..m].partition_point(|from| (*from as usize) < v)
 }
 
 // Some meant move, or else some disturbance, leads from v to w: of v's moves, which begin at the first.
@@ -82,15 +72,13 @@ fn has_move(
     requires { Within n m costs.now froms.now tos.now × Ascending m froms.now × FirstFrom m froms.now v first }
     ensures { result ≡ found (number_at froms.now) (leads_to meant w costs.now tos.now) m v }
 {
-    let mut i = first;
-    while i < m {
+    for i in first..m {
         if froms[i] as usize != v {
             return false;
         }
         if leads(i, meant, w, costs, tos) {
             return true;
         }
-        i += 1;
     }
     false
 }

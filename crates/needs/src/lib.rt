@@ -17,10 +17,8 @@ pub fn code_moves(m: usize, costs: &[u8], froms: &[u16], codes: &mut [u16])
     requires { (m ≤ length costs.now) × (m ≤ length froms.now) × (m ≤ length codes.old) × ((i : ℕ) → i < m → get_or froms.now i 0 < 512) }
     ensures { Filled codes.old codes.new m (code_of costs.now froms.now) }
 {
-    let mut i: usize = 0;
-    while i < m {
+    for i in 0..m {
         codes[i] = 2 * froms[i] + costs[i] as u16;
-        i += 1;
     }
 }
 
@@ -39,12 +37,10 @@ fn set_needs(n: usize, owners: &[u8], needs: &mut [u16])
     requires { (n ≤ 512) × (n ≤ length owners.now) × (2 * n ≤ length needs.old) }
     ensures { SetBefore n owners.now needs.old needs.new }
 {
-    let mut v: usize = 0;
-    while v < n {
+    for v in 0..n {
         let e = 2 * v;
         needs[e] = need_of(owners[v], needs[e]);
         needs[e + 1] = MET + 1;
-        v += 1;
     }
 }
 

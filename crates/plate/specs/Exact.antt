@@ -1,6 +1,6 @@
 -- The computed form is exact: `Good` is answered of just the plates of the form, and line l exactly when 11 has it. Each test
 -- decides its condition; from an answer its condition follows, and the conditions exclude each other, so the converse holds too.
-use Rattle.std.specs.Prelude.{ℕ, zero, suc, ◌+◌, ◌*◌, ◌≤◌, ◌<◌, ◌≡◌, refl, ◌↔◌, Bool, true, false, ◌&&◌, List, length, get_or, eqb, ltb}
+use Rattle.std.specs.Prelude.{ℕ, zero, suc, ◌+◌, ◌*◌, ◌≤◌, ◌<◌, ◌≡◌, refl, ◌↔◌, Bool, true, false, ◌&&◌, List, length, get_or, eqb, ltb, ⊤, Result, Ok, Err}
 use Rattle.std.proofs.Common.{arith, add-one, sym, ap, ◌∙◌, subst, eqb-true, ltb-true, eq-eqb, lt-ltb}
 use Rattle.std.proofs.Math.Decide.{dec_lt}
 use Rattle.std.proofs.lemmas.Bool.{eqb-false}
@@ -13,8 +13,6 @@ use Rattle.plate.specs.Form.{column_at, NumberBelow, DashOrBelow, EverOrBelow, H
 use Rattle.plate.specs.Formed.{number_is, number_below, dash_or_below, ever_or_below, header_good, position_good_at, position_good, bad_position, form_of}
 use Rattle.line.specs.declared.Entry.{Entry}
 use Rattle.line.specs.declared.Entry.TheVariants.{Number, Dash, Ever, Bad}
-use Rattle.plate.specs.declared.Form.{Form}
-use Rattle.plate.specs.declared.Form.TheVariants.{Good, Bad as BadLine}
 
 -- a test decides a statement
 abbrev Decides : Bool → Type 0 → Type 0
@@ -103,10 +101,10 @@ line-decides n text v = rw (add-one v) (position-decides n text v (suc v))
 
 -- From the answer to its condition
 
-bad-is-not-good : (l : ℕ) → BadLine l ≡ Good → ⊥
+bad-is-not-good : (l : ℕ) → Err l ≡ Ok (tt {0}) → ⊥
 bad-is-not-good l q = let z : ◌≡◌ {A = ℕ} 0 1 = cc in omega arith
 
-good-form : (n : ℕ) (text : List ℕ) → form_of n text ≡ Good → OfForm n text
+good-form : (n : ℕ) (text : List ℕ) → form_of n text ≡ Ok tt → OfForm n text
 unfolding form_of LineForm
 good-form n text e = go (eqb (length text) ((n + 1) * 22)) (header_good n text) refl refl
   where
@@ -121,14 +119,14 @@ good-form n text e = go (eqb (length text) ((n + 1) * 22)) (header_good n text) 
         line : (i : ℕ) → i ≤ n → LineForm n text i
         line zero h = (header-decides n text).0 q
         line (suc v) h =
-            let all = first_ended (position_good n text) bad_position Good (λ u f z. bad-is-not-good (u + 1) z) n 0 (simp (p, q) at e) in
+            let all = first_ended (position_good n text) bad_position (Ok tt) (λ u f z. bad-is-not-good (u + 1) z) n 0 (simp (p, q) at e) in
             rw (add-one v) at ((line-decides n text v).0 (all v (omega arith) (omega arith)))
 
-bad-form : (n l : ℕ) (text : List ℕ) → form_of n text ≡ BadLine l → BadAt n text l
+bad-form : (n l : ℕ) (text : List ℕ) → form_of n text ≡ Err l → BadAt n text l
 unfolding form_of LineForm
 bad-form n l text e = go (eqb (length text) ((n + 1) * 22)) (header_good n text) refl refl
   where
-    first : (q : BadLine 0 ≡ BadLine l) → 0 ≡ l
+    first : (q : ◌≡◌ {A = Result ⊤ ℕ} (Err 0) (Err l)) → 0 ≡ l
     first q = cc
 
     not-true : (b : Bool) → b ≡ false → b ≡ true → ⊥
@@ -143,11 +141,11 @@ bad-form n l text e = go (eqb (length text) ((n + 1) * 22)) (header_good n text)
         subst (BadAt n text) (same w.2)
         (bad_line (eqb-true (length text) ((n + 1) * 22) p) (omega (arith, w.1.high)) (λ f. not-true (position_good n text w.0) w.1.fails ((line-decides n text w.0).1 f)) below)
       where
-        same : {k : ℕ} → BadLine k ≡ BadLine l → k ≡ l
+        same : {k : ℕ} → ◌≡◌ {A = Result ⊤ ℕ} (Err k) (Err l) → k ≡ l
         same z = cc
 
-        w : (v : ℕ) × FirstAt (position_good n text) n 0 v × (bad_position v ≡ BadLine l)
-        w = first-answered (position_good n text) bad_position Good (BadLine l) (λ z. bad-is-not-good l (sym z)) n 0 (simp (p, q) at e)
+        w : (v : ℕ) × FirstAt (position_good n text) n 0 v × (bad_position v ≡ Err l)
+        w = first-answered (position_good n text) bad_position (Ok tt) (Err l) (λ z. bad-is-not-good l (sym z)) n 0 (simp (p, q) at e)
 
         below : (i : ℕ) → i < w.0 + 1 → LineForm n text i
         below zero h = (header-decides n text).0 q
@@ -171,19 +169,19 @@ bad-once n k l text (bad_line s i f b) (bad_line t j g c) = go (dec_lt k l) (dec
     go (no h) (no h') = omega arith
 
 -- 11 is answered at line l exactly when l is the lowest bad line, the length first, and never of a plate of the form
-pub form-exact : (n : ℕ) (text : List ℕ) → form_of n text ≡ Good ↔ OfForm n text
+pub form-exact : (n : ℕ) (text : List ℕ) → form_of n text ≡ (Ok tt) ↔ OfForm n text
 form-exact n text = (good-form n text, λ w. go w (form_of n text) refl)
   where
-    go : OfForm n text → (f : Form) → form_of n text ≡ f → f ≡ Good
-    go w Good e = refl
-    go w (BadLine l) e = absurd (good-not-bad n l text w (bad-form n l text e))
+    go : OfForm n text → (f : Result ⊤ ℕ) → form_of n text ≡ f → f ≡ Ok tt
+    go w (Ok _) e = refl
+    go w (Err l) e = absurd (good-not-bad n l text w (bad-form n l text e))
 
-pub bad-line-exact : (n l : ℕ) (text : List ℕ) → form_of n text ≡ BadLine l ↔ BadAt n text l
+pub bad-line-exact : (n l : ℕ) (text : List ℕ) → form_of n text ≡ Err l ↔ BadAt n text l
 bad-line-exact n l text = (bad-form n l text, λ w. go w (form_of n text) refl)
   where
-    go : BadAt n text l → (f : Form) → form_of n text ≡ f → f ≡ BadLine l
-    go w Good e = absurd (good-not-bad n l text (good-form n text e) w)
-    go w (BadLine k) e = ap BadLine (bad-once n k l text (bad-form n k text e) w)
+    go : BadAt n text l → (f : Result ⊤ ℕ) → form_of n text ≡ f → f ≡ Err l
+    go w (Ok _) e = absurd (good-not-bad n l text (good-form n text e) w)
+    go w (Err k) e = ap Err (bad-once n k l text (bad-form n k text e) w)
 
 -- Blanks
 
@@ -218,6 +216,6 @@ blank-refused n i j text inside h e = go (form_of n text) refl
         low (yes less) = absurd (bad (before i less))
         low (no less) = omega arith
 
-    go : (f : Form) → form_of n text ≡ f → (l : ℕ) × (l ≤ i) × BadAt n text l
-    go Good q = absurd (bad ((good-form n text q).line i inside))
-    go (BadLine l) q = let w = bad-form n l text q in (l, first l w, w)
+    go : (f : Result ⊤ ℕ) → form_of n text ≡ f → (l : ℕ) × (l ≤ i) × BadAt n text l
+    go (Ok _) q = absurd (bad ((good-form n text q).line i inside))
+    go (Err l) q = let w = bad-form n l text q in (l, first l w, w)

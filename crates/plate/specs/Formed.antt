@@ -1,12 +1,10 @@
 -- The form of a plate, computed: a test for each line, and the lowest line that fails. That it answers what specs/Form.antt says
 -- is proved in specs/Exact.antt.
-use Rattle.std.specs.Prelude.{ℕ, ◌+◌, ◌*◌, Bool, true, false, cond, ◌&&◌, List, length, eqb, ltb}
+use Rattle.std.specs.Prelude.{ℕ, ◌+◌, ◌*◌, Bool, true, false, cond, ◌&&◌, List, length, eqb, ltb, ⊤, Result, Ok, Err}
 use Rattle.search.specs.First.{first_from}
 use Rattle.line.specs.Text.{entry_at, framed}
 use Rattle.line.specs.declared.Entry.{Entry}
 use Rattle.line.specs.declared.Entry.TheVariants.{Number, Dash, Ever, Bad}
-use Rattle.plate.specs.declared.Form.{Form}
-use Rattle.plate.specs.declared.Form.TheVariants.{Good, Bad as BadLine}
 
 -- the number x
 unfoldable pub number_is : ℕ → Entry → Bool
@@ -47,9 +45,9 @@ unfoldable pub position_good : ℕ → List ℕ → ℕ → Bool
 position_good n text v = position_good_at n text v ((v + 1) * 22)
 
 -- position v's line is the bad one
-abbrev pub bad_position : ℕ → Form
-bad_position v = BadLine (v + 1)
+abbrev pub bad_position : ℕ → Result ⊤ ℕ
+bad_position v = Err (v + 1)
 
-unfoldable pub form_of : ℕ → List ℕ → Form
+unfoldable pub form_of : ℕ → List ℕ → Result ⊤ ℕ
 form_of n text =
-    cond (eqb (length text) ((n + 1) * 22)) (cond (header_good n text) (first_from (position_good n text) bad_position Good n 0) (BadLine 0)) (BadLine 0)
+    cond (eqb (length text) ((n + 1) * 22)) (cond (header_good n text) (first_from (position_good n text) bad_position (Ok tt) n 0) (Err 0)) (Err 0)

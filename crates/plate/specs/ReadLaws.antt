@@ -1,5 +1,5 @@
 -- Laws of reading a plate of the form: every entry of a column fits 16 bits, and a turn of the reading fills the three rows by one.
-use Rattle.std.specs.Prelude.{ℕ, suc, ◌+◌, ◌*◌, ◌≤◌, ◌<◌, ◌≡◌, List, length}
+use Rattle.std.specs.Prelude.{ℕ, suc, ◌+◌, ◌*◌, ◌≤◌, ◌<◌, ◌≡◌, List, length, Ok}
 use Rattle.std.proofs.Common.{arith, add-one}
 use Rattle.rows.specs.Numbers.{number_of}
 use Rattle.plate.specs.Form.{column_at, NumberBelow, DashOrBelow, EverOrBelow, HeaderForm, PositionForm, LineForm, OfForm}
@@ -8,7 +8,6 @@ use Rattle.plate.specs.Exact.{form-exact}
 use Rattle.plate.specs.Read.{entry_value, entry_number}
 use Rattle.line.specs.declared.Entry.{Entry}
 use Rattle.line.specs.declared.Entry.TheVariants.{Number, Dash, Ever, Bad}
-use Rattle.plate.specs.declared.Form.TheVariants.{Good}
 
 number_fits : (b : ℕ) (e : Entry) → b ≤ 65535 → NumberBelow b e → entry_number e ≤ 65535
 unfolding NumberBelow entry_value number_of
@@ -47,7 +46,7 @@ pub record LineFits (text : List ℕ) (i : ℕ) : Type 0 where
   pub third : entry_number (column_at text i 2) ≤ 65535
   pub fourth : entry_number (column_at text i 3) ≤ 65535
 
-module _ (n : ℕ) (text : List ℕ) (small : n ≤ 512) (good : form_of n text ≡ Good) where
+module _ (n : ℕ) (text : List ℕ) (small : n ≤ 512) (good : form_of n text ≡ Ok tt) where
   pub header-fits : LineFits text 0
   header-fits =
       let form = (form-exact n text).0 good in

@@ -16,47 +16,38 @@ pub const FIELDS: usize = 4;
 
 pub const LINE: usize = 22;
 
-// What examining a plate finds: the form, or the lowest line that is not of it.
-#[derive(Clone, Copy)]
-pub enum Form {
-    Good,
-    Bad(usize),
-}
-
 // Whether a text is a plate of n positions of the form under 11, and if not its lowest bad line. Its length is tested first, as
 // line 0.
-pub fn examine_plate(n: usize, plate: &[u8]) -> Form
+pub fn examine_plate(n: usize, plate: &[u8]) -> Result<(), usize>
     ensures { result ≡ form_of n plate.now }
 {
     let lines = plate.len() / LINE;
     if plate.len() % LINE != 0 {
-        return Form::Bad(0);
+        return Err(0);
     }
     if lines == 0 {
-        return Form::Bad(0);
+        return Err(0);
     }
     if lines - 1 != n {
-        return Form::Bad(0);
+        return Err(0);
     }
     if !header_good(n, plate) {
-        return Form::Bad(0);
+        return Err(0);
     }
     positions_form(n, plate)
 }
 
 // The lowest bad line after the first.
-fn positions_form(n: usize, plate: &[u8]) -> Form
+fn positions_form(n: usize, plate: &[u8]) -> Result<(), usize>
     requires { (n + 1) * 22 ≤ length plate.now }
-    ensures { result ≡ first_from (position_good n plate.now) bad_position Form.Good n 0 }
+    ensures { result ≡ first_from (position_good n plate.now) bad_position (Ok tt) n 0 }
 {
-    let mut v = 0;
-    while v < n {
+    for v in 0..n {
         if !position_good(n, plate, v) {
-            return Form::Bad(v + 1);
+            return Err(v + 1);
         }
-        v += 1;
     }
-    Form::Good
+    Ok(())
 }
 
 // The first line: n, rounds, highest, count of "ever". The bound keeps it within the text: the length is tested before.
@@ -158,17 +149,15 @@ pub fn read_rows(
     choices: &mut [u16],
     steps: &mut [u16],
 ) -> FirstLine
-    requires n_bound { (n ≤ 512) × (form_of n plate.now ≡ Form.Good) }
+    requires n_bound { (n ≤ 512) × (form_of n plate.now ≡ Ok tt) }
     requires n_in_bounds { (n ≤ length values.old) × (n ≤ length choices.old) × (n ≤ length steps.old) }
     ensures { RowsRead n plate.now result values.old values.new choices.old choices.new steps.old steps.new }
 {
-    let mut v = 0;
-    while v < n {
+    for v in 0..n {
         let at = (v + 1) * LINE;
         values[v] = number_at(plate, at + 6);
         choices[v] = number_at(plate, at + 11);
         steps[v] = number_at(plate, at + 16);
-        v += 1;
     }
     FirstLine {
         rounds: number_at(plate, 6),

@@ -35,11 +35,9 @@ fn write_positions(n: usize, values: &[u16], choices: &[u16], steps: &[u16], lin
     requires n_in_bounds { n * 22 ≤ length lines.old }
     ensures { lines.new ≡ position_lines (row_value values.now) (row_value choices.now) (row_value steps.now) n ++ drop (n * 22) lines.old }
 {
-    let mut v = 0;
-    while v < n {
+    for v in 0..n {
         let at = v * LINE;
         write_position(v, values[v], choices[v], steps[v], &mut lines[at..]);
-        v += 1;
     }
 }
 
@@ -82,7 +80,7 @@ fn make_value(x: u16, part: &mut [u8], at: usize)
     }
 }
 
-// The field of a number in a column of dashes, likewise.
+// The field of a number in a column of dashes, likewise. Not one function with `make_value`: each promises its own column's text.
 fn make_or_dash(x: u16, part: &mut [u8], at: usize)
     requires { at + 5 ≤ length part.old }
     ensures { FieldMade part.old part.new at (dash_entry (value_of x)) }

@@ -1,5 +1,5 @@
 -- What the walk takes is what the plate holds: an entry by its word, a line by its entries, the plate by its lines.
-use Rattle.std.specs.Prelude.{ℕ, ◌+◌, ◌*◌, ◌%◌, ◌<◌, ◌≤◌, ◌≡◌, ◌⊎◌, Bool, ◌&&◌, List, length, get_or, set, ltb}
+use Rattle.std.specs.Prelude.{ℕ, ◌+◌, ◌*◌, ◌%◌, ◌<◌, ◌≤◌, ◌≡◌, ◌⊎◌, Bool, ◌&&◌, List, length, get_or, set, ltb, true, Option, Some, None, Result, Ok, Err}
 use Rattle.std.proofs.Common.{mod-eq_of_lt, ap, ◌∙◌}
 use native.Mathlib.Omega.{arith}
 use Rattle.std.proofs.Math.Path.{refl, sym, subst}
@@ -20,12 +20,9 @@ use Rattle.spelling.specs.WordLaws.{word_bytes, entry-reads, place-small}
 use Rattle.plate.specs.Form.{column_at}
 use Rattle.plate.specs.Formed.{number_is, dash_or_below, ever_or_below, header_good, position_good, position_good_at, bad_position, form_of}
 use Rattle.plate.specs.Read.{entry_value, entry_number, ColumnsRead, RowsRead, value_in_plate, choice_in_plate, step_in_plate}
-use Rattle.plate.specs.declared.Form.TheVariants.{Good, Bad as BadLine}
 use Rattle.rows.specs.declared.FirstLine.{FirstLine}
 use Rattle.plate_walk.specs.Walk.{EntryTaken, LineTaken, PlateLoaded, PlateLoadedAs, PlatePassed, Touched, LinesWalked, guess, taken}
 use Rattle.plate_walk.specs.declared.Line.{Line}
-use Rattle.plate_walk.specs.declared.Sheet.{Sheet}
-use Rattle.plate_walk.specs.declared.Sheet.TheVariants.{Rows, Bad}
 
 and_both : (a b : Bool) → (a && b) ≡ true → (a ≡ true) × (b ≡ true)
 and_both true b e = (refl, e)
@@ -102,29 +99,30 @@ module _ (n bound : ℕ) (text : List ℕ) (at r : ℕ) (few : n ≤ 512) (insid
 abbrev pub line_tests : (frame : Bool) (v position value choice step : ℕ) → Bool
 line_tests frame v position value choice step = (frame && eqb position v) && ((ltb value 65536 && ltb choice 65536) && ltb step 65536)
 
-pub line_taken : (n v position value choice step : ℕ) (text : List ℕ) (frame : Bool) (line : Line) → n ≤ 512 → v < n
+pub line_taken : (n v position value choice step : ℕ) (text : List ℕ) (frame : Bool) → n ≤ 512 → v < n
     → frame ≡ framed text ((v + 1) * 22) 4 86
     → EntryTaken n text ((v + 1) * 22 + 1) 757080096 position → EntryTaken n text ((v + 1) * 22 + 6) 1919252069 value
     → EntryTaken n text ((v + 1) * 22 + 11) 757080096 choice → EntryTaken n text ((v + 1) * 22 + 16) 757080096 step
-    → line.good ≡ line_tests frame v position value choice step
-    → line.value ≡ value % 65536 → line.choice ≡ choice % 65536 → line.step ≡ step % 65536
-    → LineTaken n text v line
+    → line_tests frame v position value choice step ≡ true
+    → LineTaken n text v (Some (record { value = value; choice = choice; step = step }))
 unfolding position_good position_good_at number_is value_in_plate choice_in_plate step_in_plate column_at
-line_taken n v position value choice step text frame line few l f tp tv tc ts tests ev ec es =
+line_taken n v position value choice step text frame few l f tp tv tc ts tests =
     record {
-      form = λ g. let w = all g in rw (w.0, w.1, w.2.0, w.3.0, w.4.0);
-      value-is = λ g. let w = all g in ev ∙ mod-eq_of_lt w.5 ∙ w.2.1;
-      choice-is = λ g. let w = all g in ec ∙ mod-eq_of_lt w.6 ∙ w.3.1;
-      step_is = λ g. let w = all g in es ∙ mod-eq_of_lt w.7 ∙ w.4.1;
+      form = λ k e. rw (all.0, all.1, all.2.0, all.3.0, all.4.0);
+      value-is = λ k e. let same : line ≡ k = cc in ap (λ (x : Line). x.value) (sym same) ∙ all.2.1;
+      choice-is = λ k e. let same : line ≡ k = cc in ap (λ (x : Line). x.choice) (sym same) ∙ all.3.1;
+      step_is = λ k e. let same : line ≡ k = cc in ap (λ (x : Line). x.step) (sym same) ∙ all.4.1;
     }
   where
-    all : line.good ≡ true → (framed text ((v + 1) * 22) 4 86 ≡ true) × (number_is v (entry_at text ((v + 1) * 22 + 1)) ≡ true)
+    line : Line
+    line = record { value = value; choice = choice; step = step }
+
+    all : (framed text ((v + 1) * 22) 4 86 ≡ true) × (number_is v (entry_at text ((v + 1) * 22 + 1)) ≡ true)
         × ((ever_or_below 512 (entry_at text ((v + 1) * 22 + 6)) ≡ true) × (value ≡ entry_number (entry_at text ((v + 1) * 22 + 6))))
         × ((dash_or_below n (entry_at text ((v + 1) * 22 + 11)) ≡ true) × (choice ≡ entry_number (entry_at text ((v + 1) * 22 + 11))))
         × ((dash_or_below 512 (entry_at text ((v + 1) * 22 + 16)) ≡ true) × (step ≡ entry_number (entry_at text ((v + 1) * 22 + 16))))
-        × (value < 65536) × (choice < 65536) × (step < 65536)
-    all g =
-        let one = and_both (frame && eqb position v) ((ltb value 65536 && ltb choice 65536) && ltb step 65536) (sym tests ∙ g) in
+    all =
+        let one = and_both (frame && eqb position v) ((ltb value 65536 && ltb choice 65536) && ltb step 65536) tests in
         let left = and_both frame (eqb position v) one.0 in
         let right = and_both (ltb value 65536 && ltb choice 65536) (ltb step 65536) one.1 in
         let both = and_both (ltb value 65536) (ltb choice 65536) right.0 in
@@ -138,10 +136,14 @@ line_taken n v position value choice step text frame line few l f tp tv tc ts te
           ever-taken n 512 text ((v + 1) * 22 + 6) value few few tv lv,
           dash-taken n n text ((v + 1) * 22 + 11) choice few (omega arith) tc lc,
           dash-taken n 512 text ((v + 1) * 22 + 16) step few few ts ls,
-          lv,
-          lc,
-          ls,
         )
+
+-- a line that is not taken tells nothing
+pub not-taken : (n v : ℕ) (text : List ℕ) → LineTaken n text v None
+not-taken n v text = record { form = λ k e. none e; value-is = λ k e. none e; choice-is = λ k e. none e; step_is = λ k e. none e }
+  where
+    none : {A : Type 0} {k : Line} → None ≡ Some k → A
+    none e = let z : ◌≡◌ {A = ℕ} 0 1 = cc in absurd (omega arith)
 
 -- The plate
 
@@ -149,14 +151,14 @@ pub columns-none : (text values choices steps : List ℕ) → ColumnsRead 0 text
 columns-none text values choices steps = record { value = filled_none _ _; choice = filled_none _ _; step = filled_none _ _ }
 
 -- a good line more
-pub columns-next : {n v : ℕ} {text values₀ values choices₀ choices steps₀ steps : List ℕ} {line : Line} → v < length values₀ → v < length choices₀ → v < length steps₀
-    → LineTaken n text v line → line.good ≡ true → ColumnsRead v text values₀ values choices₀ choices steps₀ steps
+pub columns-next : {n v : ℕ} {text values₀ values choices₀ choices steps₀ steps : List ℕ} {taken : Option Line} {line : Line} → v < length values₀ → v < length choices₀ → v < length steps₀
+    → LineTaken n text v taken → taken ≡ Some line → ColumnsRead v text values₀ values choices₀ choices steps₀ steps
     → ColumnsRead (v + 1) text values₀ (set values v line.value) choices₀ (set choices v line.choice) steps₀ (set steps v line.step)
 columns-next lv lc ls t g h =
     record {
-      value = filled_more _ _ _ _ _ h.value lv (t.value-is g);
-      choice = filled_more _ _ _ _ _ h.choice lc (t.choice-is g);
-      step = filled_more _ _ _ _ _ h.step ls (t.step_is g);
+      value = filled_more _ _ _ _ _ h.value lv (t.value-is _ g);
+      choice = filled_more _ _ _ _ _ h.choice lc (t.choice-is _ g);
+      step = filled_more _ _ _ _ _ h.step ls (t.step_is _ g);
     }
 
 -- the columns of some positions leave what lies past all of them
@@ -173,10 +175,10 @@ untouched n values choices steps =
     }
 
 -- a plate whose length, first line and other lines are good is of the form
-pub lines-form : (n : ℕ) (text : List ℕ) → length text ≡ (n + 1) * 22 → header_good n text ≡ true → ((v : ℕ) → v < n → position_good n text v ≡ true) → form_of n text ≡ Good
+pub lines-form : (n : ℕ) (text : List ℕ) → length text ≡ (n + 1) * 22 → header_good n text ≡ true → ((v : ℕ) → v < n → position_good n text v ≡ true) → form_of n text ≡ Ok tt
 unfolding form_of
 lines-form n text size header lines =
-    rw (eq-eqb (length text) ((n + 1) * 22) size, header) (first-none (position_good n text) bad_position Good n 0 (λ v l h. lines v (omega arith)))
+    rw (eq-eqb (length text) ((n + 1) * 22) size, header) (first-none (position_good n text) bad_position (Ok tt) n 0 (λ v l h. lines v (omega arith)))
 
 pub read-after : {n : ℕ} {text : List ℕ} {header : FirstLine} {values₀ values₁ values choices₀ choices₁ choices steps₀ steps₁ steps : List ℕ}
     → Touched n values₀ values₁ choices₀ choices₁ steps₀ steps₁ → RowsRead n text header values₁ values choices₁ choices steps₁ steps
@@ -212,11 +214,11 @@ module _ {n : ℕ} {text values₀ values choices₀ choices steps₀ steps : Li
   passes-as size header w = record { form = λ e. lines-form n text size header (w.lines e); rows = w.rows; touched = w.touched }
 
 -- What the answer tells
-module _ {n : ℕ} {text values₀ values choices₀ choices steps₀ steps : List ℕ} {r : Sheet} (is : PlateLoaded n text r values₀ values choices₀ choices steps₀ steps) where
-  pub loaded-rows : {header : FirstLine} → r ≡ Rows header → (form_of n text ≡ Good) × RowsRead n text header values₀ values choices₀ choices steps₀ steps
+module _ {n : ℕ} {text values₀ values choices₀ choices steps₀ steps : List ℕ} {r : Result FirstLine ℕ} (is : PlateLoaded n text r values₀ values choices₀ choices steps₀ steps) where
+  pub loaded-rows : {header : FirstLine} → r ≡ Ok header → (form_of n text ≡ Ok tt) × RowsRead n text header values₀ values choices₀ choices steps₀ steps
   unfolding PlateLoadedAs
   loaded-rows e = subst (PlateLoadedAs n text values₀ values choices₀ choices steps₀ steps) e is.loaded
 
-  pub loaded-bad : {line : ℕ} → r ≡ Bad line → form_of n text ≡ BadLine line
+  pub loaded-bad : {line : ℕ} → r ≡ Err line → form_of n text ≡ Err line
   unfolding PlateLoadedAs
   loaded-bad e = (subst (PlateLoadedAs n text values₀ values choices₀ choices steps₀ steps) e is.loaded).0

@@ -10,21 +10,13 @@ ghost use Rattle.plate.specs.Read.{header_in};
 ghost use Rattle.plate_walk.specs.Walk.{EntryTaken, LineTaken, PlateLoaded, PlatePassed, LinesWalked, guess};
 
 use line::framed;
-use plate::{FIELDS, Form, LINE, examine_plate, header_good, number_at, read_rows};
+use plate::{FIELDS, LINE, examine_plate, header_good, number_at, read_rows};
 use rows::{Chart, FirstLine, NONE, clear};
 use spelling::{spell_all, word};
 
-// What a plate is: the first line's numbers, with the rows beside them, or the lowest line that is not of the form.
-#[derive(Clone, Copy)]
-pub enum Sheet {
-    Rows(FirstLine),
-    Bad(usize),
-}
-
-// What a line is taken for: whether it is of the form, and its numbers if it is.
+// The numbers of a line of the form.
 #[derive(Clone, Copy)]
 struct Line {
-    good: bool,
     value: u16,
     choice: u16,
     step: u16,
@@ -46,27 +38,27 @@ pub fn load_plate(
     values: &mut [u16],
     choices: &mut [u16],
     steps: &mut [u16],
-) -> Sheet
+) -> Result<FirstLine, usize>
     requires { (n ≤ 512) × (n ≤ length values.old) × (n ≤ length choices.old) × (n ≤ length steps.old) }
     ensures { PlateLoaded n plate.now result values.old values.new choices.old choices.new steps.old steps.new }
 {
     if passes(n, plate, values, choices, steps) {
-        return Sheet::Rows(first_line(n, plate));
+        return Ok(first_line(n, plate));
     }
     match examine_plate(n, plate) {
-        Form::Good => Sheet::Rows(read_rows(n, plate, values, choices, steps)),
-        Form::Bad(line) => {
+        Ok(()) => Ok(read_rows(n, plate, values, choices, steps)),
+        Err(line) => {
             clear(n, values);
             clear(n, choices);
             clear(n, steps);
-            Sheet::Bad(line)
+            Err(line)
         }
     }
 }
 
 // The first line's numbers of a plate of the form.
 fn first_line(n: usize, plate: &[u8]) -> FirstLine
-    requires { (n ≤ 512) × (form_of n plate.now ≡ Form.Good) }
+    requires { (n ≤ 512) × (form_of n plate.now ≡ Ok tt) }
     ensures { result ≡ header_in plate.now }
 {
     FirstLine {
@@ -109,22 +101,19 @@ fn walk(
     requires { (n ≤ 512) × (n ≤ length values.old) × (n ≤ length choices.old) × (n ≤ length steps.old) × (n ≤ length words.now) × ((n + 1) * 22 ≤ length plate.now) × RowIs words.now n spelt }
     ensures { LinesWalked n plate.now result values.old values.new choices.old choices.new steps.old steps.new }
 {
-    let mut v: usize = 0;
-    while v < n {
-        let line = line_at(n, v, plate, words);
-        if !line.good {
+    for v in 0..n {
+        let Some(line) = line_at(n, v, plate, words) else {
             return false;
-        }
+        };
         values[v] = line.value;
         choices[v] = line.choice;
         steps[v] = line.step;
-        v += 1;
     }
     true
 }
 
-// The line of position v. Numbers are put below 65,536 before they are known to be, so that nothing jumps.
-fn line_at(n: usize, v: usize, plate: &[u8], words: &[u32]) -> Line
+// The line of position v, if it is of the form. All its tests are joined, so that it jumps once.
+fn line_at(n: usize, v: usize, plate: &[u8], words: &[u32]) -> Option<Line>
     requires { (n ≤ 512) × (v < n) × (n ≤ length words.now) × ((n + 1) * 22 ≤ length plate.now) × RowIs words.now n spelt }
     ensures { LineTaken n plate.now v result }
 {
@@ -135,11 +124,14 @@ fn line_at(n: usize, v: usize, plate: &[u8], words: &[u32]) -> Line
     let step = entry(n, plate, at + 16, words, DASH);
     let numbered = position as usize == v;
     let taken = (value < WRONG) & (choice < WRONG) & (step < WRONG);
-    Line {
-        good: framed(plate, at, FIELDS, b'V') & numbered & taken,
-        value: (value % 65536) as u16,
-        choice: (choice % 65536) as u16,
-        step: (step % 65536) as u16,
+    if framed(plate, at, FIELDS, b'V') & numbered & taken {
+        Some(Line {
+            value: value as u16,
+            choice: choice as u16,
+            step: step as u16,
+        })
+    } else {
+        None
     }
 }
 

@@ -2,7 +2,7 @@
 // against the definitions elsewhere. The texts are lent as those of runs are; besides, the plate may be another chart's, and a byte damaged.
 use crate::reports::{Card, OWN, draw_start, draw_target, lend, mark, report_step, start_step};
 use checking::check;
-use house::{House, Housed, drive};
+use house::{House, drive};
 use reference::answers::numbers_of;
 use reference::definition::target;
 use reference::generate::below;
@@ -52,11 +52,8 @@ pub fn compare_house(
     tally: &mut Tally,
 ) -> io::Result<()> {
     let mut lanes = [Run::none(); 64];
-    let mut i: usize = 0;
-    while i < 7 {
-        let after = turn(rt, lanes, i == 0, first, second, seed, tally)?;
-        lanes = after;
-        i += 1;
+    for i in 0..7 {
+        lanes = turn(rt, lanes, i == 0, first, second, seed, tally)?;
     }
     Ok(())
 }
@@ -122,12 +119,9 @@ fn damage(page: &mut Page, size: usize, seed: &mut usize) {
 
 fn start_lanes(chart: &Chart, text: &[u8], plate: &[u8], seed: &mut usize) -> Lanes {
     let mut lanes = [Run::none(); 64];
-    let mut lane: usize = 0;
-    while lane < 64 {
+    for lane in 0..64 {
         let step = start_step(Run::start(text, plate, draw_start(chart, seed)));
-        let run = step.run;
-        lanes[lane] = run;
-        lane += 1;
+        lanes[lane] = step.run;
     }
     lanes
 }
@@ -136,11 +130,8 @@ fn start_lanes(chart: &Chart, text: &[u8], plate: &[u8], seed: &mut usize) -> La
 fn draw_row(chart: &Chart, table: &Table, lanes: Lanes, seed: &mut usize) -> Row {
     let mut row = [65535u16; 65];
     let wild = below(seed, 48);
-    let mut lane: usize = 0;
-    while lane < 64 {
-        let run = lanes[lane];
+    for (lane, run) in lanes.iter().enumerate() {
         row[lane] = draw_report(chart, table, run.position(), wild, seed);
-        lane += 1;
     }
     row
 }
@@ -192,7 +183,7 @@ fn compare_row(
         count
     };
     let due = answer_due(lanes, count, reports, row, text, plate);
-    let house = drive(lanes, count, front(row, reports), text, plate);
+    let house = drive(lanes, count, &row[..reports.min(65)], text, plate);
     count_row(due, tally);
     expect(rt, same_house(house, due), b"a house", text, tally)?;
     Ok(house.runs)
@@ -204,14 +195,6 @@ fn draw_count(seed: &mut usize) -> usize {
         return below(seed, 66);
     }
     below(seed, 4) % 4 + 1
-}
-
-fn front(row: &[u16], count: usize) -> &[u16] {
-    if count <= row.len() {
-        &row[0..count]
-    } else {
-        row
-    }
 }
 
 // A house's report by document 02: 20, Checking's refusals, then those of the lanes. Either all that report move, or none does.
@@ -255,9 +238,7 @@ fn refused(lanes: Lanes, moved: usize, lane: usize, refusal: Numbers) -> Due {
 fn report_lanes(lanes: Lanes, count: usize, row: &Row, text: &[u8], plate: &[u8]) -> Due {
     let mut due = refused(lanes, 0, 0, Numbers::none());
     due.written = count;
-    let mut lane = count;
-    while 0 < lane {
-        lane -= 1;
+    for lane in (0..count).rev() {
         due = report_lane(due, lane, row, text, plate);
     }
     due
@@ -314,8 +295,8 @@ fn same_house(house: House, due: Due) -> bool {
     let refusal = due.refusal;
     let same = same_lanes(lanes, wanted) & (house.written == due.written);
     match answer {
-        Housed::Moved(count) => same & (refusal.number == 0) & (count == due.moved),
-        Housed::Refused(lane, r) => same & (lane == due.lane) & same_numbers(r.numbers(), refusal),
+        Ok(count) => same & (refusal.number == 0) & (count == due.moved),
+        Err((lane, r)) => same & (lane == due.lane) & same_numbers(Numbers::from(r), refusal),
     }
 }
 
@@ -325,14 +306,7 @@ fn same_numbers(a: Numbers, b: Numbers) -> bool {
 }
 
 fn same_lanes(a: Lanes, b: Lanes) -> bool {
-    let mut lane: usize = 0;
-    while lane < 64 {
-        if !same_records(a[lane], b[lane]) {
-            return false;
-        }
-        lane += 1;
-    }
-    true
+    a.iter().zip(&b).all(|(x, y)| same_records(*x, *y))
 }
 
 fn same_records(a: Run, b: Run) -> bool {

@@ -6,12 +6,12 @@ use reference::definition::{GREATEST, Weight, over, solve, target};
 use reference::generate::{below, build};
 use reference::sheet::{
     CHOICE, CONTROLLER, COUNTS, Chart, DISTURBED, LANE, MEANT, NONE, RIGHT, Table, VALUE, cell,
-    get, is_unsafe, owner, positions, put, put_line,
+    get, is_unsafe, owner, positions, put, put_line, wide,
 };
 use reference::tally::{Tally, add, expect};
 use reference::text::{part, write_chart, write_plate};
-use refusal::Numbers;
-use run::{Advice, Answer, Reported, Run, Started};
+use refusal::{Numbers, Refusal};
+use run::{Advice, Reported, Run};
 use std::io;
 
 // What is counted, in the order in which it is written: runs begun and not begun; reports that were taken as meant and as disturbances, and
@@ -30,6 +30,13 @@ const SWAPPED: usize = 8;
 
 // The most disturbances that a run counts.
 const MOST: usize = 99999;
+
+// What a step asks: a start at a position, or a report of a target.
+#[derive(Clone, Copy)]
+enum Asked {
+    Start(usize),
+    Report(usize),
+}
 
 // A chart: its kind, and its number or what it is drawn from.
 #[derive(Clone, Copy)]
@@ -82,10 +89,8 @@ pub fn compare_run(
     tally: &mut Tally,
 ) -> io::Result<()> {
     let mut followed = start(rt, first, seed, tally)?;
-    let mut i: usize = 0;
-    while i < 12 {
+    for _ in 0..12 {
         followed = report(rt, followed, first, second, below(seed, 12), seed, tally)?;
-        i += 1;
     }
     Ok(())
 }
@@ -106,7 +111,8 @@ fn start(rt: &impl Print, card: Card, seed: &mut usize, tally: &mut Tally) -> io
         return Ok(none);
     }
     let position = draw_start(&chart, seed);
-    compare_step(rt, &chart, &table, none, true, position, way, tally)
+    let asked = Asked::Start(position);
+    compare_step(rt, &chart, &table, none, asked, way, tally)
 }
 
 // A position, or once in sixteen the first number that is none.
@@ -137,17 +143,9 @@ fn report(
         return Ok(before);
     }
     let at = before.model.position;
-    let to = draw_target(&chart, &table, at, seed);
-    compare_step(
-        rt,
-        &chart,
-        &table,
-        before,
-        false,
-        to,
-        texts / 8 * 4 + texts % 4,
-        tally,
-    )
+    let asked = Asked::Report(draw_target(&chart, &table, at, seed));
+    let texts = texts / 8 * 4 + texts % 4;
+    compare_step(rt, &chart, &table, before, asked, texts, tally)
 }
 
 // The ways in which a chart is lent.
@@ -180,7 +178,7 @@ pub fn mark(chart: &mut Chart, number: usize) {
     let n = positions(chart);
     if 0 < n {
         let v = number % n;
-        let other = if is_unsafe(chart, v) { 0 } else { 1 };
+        let other = usize::from(!is_unsafe(chart, v));
         put_line(chart, v % 512 + 1, owner(chart, v), v, other);
     }
 }
@@ -198,10 +196,8 @@ fn choose_good(chart: &Chart, table: &mut Table, v: usize, seed: &mut usize) {
 // Where the machine goes: by the choice, a meant move or a disturbance, or anywhere, one position further than the chart has.
 pub fn draw_target(chart: &Chart, table: &Table, v: usize, seed: &mut usize) -> usize {
     let way = below(seed, 8);
-    if way < 3 {
-        if owner(chart, v) == CONTROLLER {
-            return get(table, CHOICE, v);
-        }
+    if way < 3 && owner(chart, v) == CONTROLLER {
+        return get(table, CHOICE, v);
     }
     let kind = if way < 4 { MEANT } else { DISTURBED };
     let count = cell(chart, COUNTS, kind % 4096 + v % 512);
@@ -211,14 +207,13 @@ pub fn draw_target(chart: &Chart, table: &Table, v: usize, seed: &mut usize) -> 
     below(seed, positions(chart) % 1024 + 1)
 }
 
-// A start at a place, or a report of it: the library's answer beside what is due by the definitions.
+// The library's answer beside what is due by the definitions.
 fn compare_step(
     rt: &impl Print,
     chart: &Chart,
     table: &Table,
     before: Followed,
-    begins: bool,
-    place: usize,
+    asked: Asked,
     texts: usize,
     tally: &mut Tally,
 ) -> io::Result<Followed> {
@@ -228,9 +223,9 @@ fn compare_step(
     let length = write_plate(&mut plate, table, positions(chart));
     let text = part(&page, size);
     let from = before.model;
-    let due = answer_due(chart, table, from, begins, place);
-    let step = answer(before.run, begins, text, part(&plate, length), place);
-    count_step(due, from, begins, before.texts != texts, tally);
+    let due = answer_due(chart, table, from, asked);
+    let step = answer(before.run, asked, text, part(&plate, length));
+    count_step(due, from, asked, before.texts != texts, tally);
     expect(rt, same_step(step, due, table), b"a run", text, tally)?;
     expect(
         rt,
@@ -249,17 +244,17 @@ fn compare_step(
     })
 }
 
-fn answer(run: Run, begins: bool, text: &[u8], plate: &[u8], place: usize) -> Step {
-    if begins {
-        return start_step(Run::start(text, plate, place));
+fn answer(run: Run, asked: Asked, text: &[u8], plate: &[u8]) -> Step {
+    match asked {
+        Asked::Start(position) => start_step(Run::start(text, plate, position)),
+        Asked::Report(to) => report_step(run.report(text, plate, to)),
     }
-    report_step(run.report(text, plate, place))
 }
 
-pub fn start_step(started: Started) -> Step {
+pub fn start_step(started: Result<(Run, Advice), Refusal>) -> Step {
     match started {
-        Started::Begun(run, advice) => taken_step(run, advice),
-        Started::Refused(r) => refused_step(Run::none(), r.numbers()),
+        Ok((run, advice)) => taken_step(run, advice),
+        Err(r) => refused_step(Run::none(), Numbers::from(r)),
     }
 }
 
@@ -267,8 +262,8 @@ pub fn report_step(reported: Reported) -> Step {
     let run = reported.run;
     let answer = reported.answer;
     match answer {
-        Answer::Taken(advice) => taken_step(run, advice),
-        Answer::Refused(r) => refused_step(run, r.numbers()),
+        Ok(advice) => taken_step(run, advice),
+        Err(r) => refused_step(run, Numbers::from(r)),
     }
 }
 
@@ -292,17 +287,17 @@ fn refused_step(run: Run, refusal: Numbers) -> Step {
     }
 }
 
-fn answer_due(chart: &Chart, table: &Table, from: Model, begins: bool, place: usize) -> Due {
-    if begins {
-        return started(chart, table, place);
+fn answer_due(chart: &Chart, table: &Table, from: Model, asked: Asked) -> Due {
+    match asked {
+        Asked::Start(position) => started(chart, table, position),
+        Asked::Report(to) => reported(chart, table, from, to),
     }
-    reported(chart, table, from, place)
 }
 
-fn count_step(due: Due, from: Model, begins: bool, swapped: bool, tally: &mut Tally) {
+fn count_step(due: Due, from: Model, asked: Asked, swapped: bool, tally: &mut Tally) {
     let after = due.model;
     let number = due.number;
-    if begins {
+    if let Asked::Start(_) = asked {
         add(tally, if number == 0 { BEGUN } else { NOT_BEGUN }, 1);
         return;
     }
@@ -327,17 +322,15 @@ fn count_step(due: Due, from: Model, begins: bool, swapped: bool, tally: &mut Ta
 // The whole answer: the refusal, the run, and the choice and the value where it stands, which are 0 on a refusal.
 fn same_step(step: Step, due: Due, table: &Table) -> bool {
     let model = due.model;
-    let choice = if due.number == 0 {
-        get(table, CHOICE, model.position)
+    let (choice, value) = if due.number == 0 {
+        (
+            get(table, CHOICE, model.position),
+            get(table, VALUE, model.position),
+        )
     } else {
-        0
+        (0, 0)
     };
-    let value = if due.number == 0 {
-        get(table, VALUE, model.position)
-    } else {
-        0
-    };
-    let advised = (step.advice.choice as usize == choice) & (step.advice.value as usize == value);
+    let advised = (wide(step.advice.choice) == choice) & (wide(step.advice.value) == value);
     same_refusal(step, due) & same_run(step.run, model) & advised
 }
 
@@ -377,7 +370,7 @@ fn sustained(chart: &Chart, due: Due) -> bool {
 // No run, which is on no chart.
 fn nobody() -> Model {
     Model {
-        position: 18446744073709551615,
+        position: usize::MAX,
         seen: 0,
         initial: 0,
         value: 0,
@@ -389,8 +382,7 @@ fn started(chart: &Chart, table: &Table, position: usize) -> Due {
     if positions(chart) <= position {
         return refused(13, nobody());
     }
-    let fault = first_fault(chart, table);
-    if fault.condition != 0 {
+    if let Some(fault) = first_fault(chart, table) {
         return faulted(fault, nobody());
     }
     let value = get(table, VALUE, position);
@@ -408,8 +400,7 @@ fn reported(chart: &Chart, table: &Table, from: Model, to: usize) -> Due {
     if (positions(chart) <= v) | (positions(chart) <= to) {
         return refused(13, from);
     }
-    let fault = first_fault(chart, table);
-    if fault.condition != 0 {
+    if let Some(fault) = first_fault(chart, table) {
         return faulted(fault, from);
     }
     if get(table, VALUE, v) != from.value {

@@ -1,16 +1,13 @@
 // The way to ruin: the library's answer, and every byte of the lent buffer, held against the best of all plays. The choices are legal ones that
 // are drawn; in 8 of 24 questions the text may be damaged, the row short, a choice any number and the position past the end.
-use crate::plays::{BEST, BEST_LED, BY_MOVES, BY_POSITION, FOUND, LENGTH, LINES, NOTES, search};
-use listing::Listed;
+use crate::plays::{Play, Walk, search};
 use reference::altered::{choose, choose_drawn, ways};
 use reference::answers::is_refusal;
-use reference::definition::{GREATEST, Weight, count, over};
-use reference::generate::{below, build};
-use reference::sheet::{
-    CHOICE, CONTROLLER, Chart, MEANT, NONE, RIGHT, Table, cell, get, owner, positions, put,
-};
+use reference::definition::{GREATEST, Weight, over};
+use reference::generate::below;
+use reference::sheet::{CHOICE, CONTROLLER, Chart, MEANT, NONE, Table, owner, positions, put};
 use reference::tally::{Tally, add, expect};
-use reference::text::{Page, lines_of, part, put_numbers, same_pages, write_damaged};
+use reference::text::{Damaged, Page, lines_of, part, put_numbers, same_pages, write_damaged};
 use ruin::list_way_to_ruin;
 use std::io;
 
@@ -27,34 +24,23 @@ const PLAYS: usize = 11;
 
 const LONGEST: usize = 12;
 
-// What is asked: the text's length, the refusal that its damage brings, 0 for none, with its line; the length of the row of choices; the position.
+// What is asked: the text; the length of the row of choices; the position.
 #[derive(Clone, Copy)]
 struct Question {
-    size: usize,
-    number: usize,
-    line: usize,
+    text: Damaged,
     choices: usize,
     position: usize,
 }
 
-// Questions about a chart of a kind, numbered from 0. Of up to two positions the first 16 are every controller from every number below 4.
+// Questions about a chart, numbered from 0. Of up to two positions the first 16 are every controller from every number below 4.
 pub fn compare_ways(
     rt: &impl Print,
-    kind: usize,
-    number: usize,
+    chart: &Chart,
     seed: &mut usize,
     tally: &mut Tally,
 ) -> io::Result<()> {
-    let mut chart = [0usize; 32768];
-    build(&mut chart, kind, number, seed);
-    // Without a move it is no chart.
-    if cell(&chart, RIGHT, 0) == 0 {
-        return Ok(());
-    }
-    let mut k: usize = 0;
-    while k < 24 {
-        compare_way(rt, &chart, k, seed, tally)?;
-        k += 1;
+    for k in 0..24 {
+        compare_way(rt, chart, k, seed, tally)?;
     }
     Ok(())
 }
@@ -70,24 +56,24 @@ fn compare_way(
     let mut page = [b'#'; 65536];
     let mut table = [0usize; 4096];
     let mut row = [4660u16; 512];
-    let mut walk = [0usize; 4096];
     let legal = draw_choices(chart, &mut table, &mut row, k, seed);
     let question = draw_question(&mut page, chart, k, seed);
-    if question.position < positions(chart) {
-        search(chart, &table, &mut walk, question.position);
-    }
+    let walk = if question.position < positions(chart) {
+        search(chart, &table, question.position)
+    } else {
+        Walk::none()
+    };
     let past = match k % 4 {
         0 => below(seed, 26),
         3 => 1,
         _ => below(seed, 2),
     };
-    let room = (get(&walk, NOTES, LINES) % 1024 * 12 + past % 32 + 8191) % 8192;
-    let answered = answer_due(chart, &walk, legal, question, room);
-    let text = part(&page, question.size);
-    let same = same_answer(text, &row, question, room, &walk, answered);
-    let through = get(&walk, NOTES, LENGTH) == 0;
+    let room = (walk.best.length % 1024 * 12 + past % 32 + 8191) % 8192;
+    let answered = answer_due(chart, &walk.best, legal, question, room);
+    let text = part(&page, question.text.size);
+    let same = same_answer(text, &row, question, room, &walk.best, answered);
     count_way(&walk, answered, tally);
-    expect(rt, same & through, b"the way to ruin", text, tally)
+    expect(rt, same & walk.is_over(), b"the way to ruin", text, tally)
 }
 
 // Legal choices; from question 16 on one of them may be any number. Answers whether that is legal too: a meant target at O, none elsewhere.
@@ -127,11 +113,8 @@ fn draw_question(page: &mut Page, chart: &Chart, k: usize, seed: &mut usize) -> 
     let at = below(seed, lines_of(chart));
     let short = (16 <= k) & (below(seed, 3) == 0);
     let some = below(seed, n + 1);
-    let text = write_damaged(page, chart, damage, at);
     Question {
-        size: text.size,
-        number: text.number,
-        line: text.line,
+        text: write_damaged(page, chart, damage, at),
         choices: if short { some } else { 512 },
         position: draw_position(n, k, seed),
     }
@@ -149,7 +132,7 @@ fn draw_position(n: usize, k: usize, seed: &mut usize) -> usize {
         0 => n,
         1 => n % 1024 + inside % 1024,
         2 => 65536 + inside % 1024,
-        3 => 18446744073709551615,
+        3 => usize::MAX,
         _ => {
             if k == 15 {
                 (n % 1024 + 1023) % 1024
@@ -161,11 +144,10 @@ fn draw_position(n: usize, k: usize, seed: &mut usize) -> usize {
 }
 
 // The refusals in the order of their tests, by the count that each goes to; or that of the way.
-fn answer_due(chart: &Chart, walk: &Table, legal: bool, question: Question, room: usize) -> usize {
+fn answer_due(chart: &Chart, best: &Play, legal: bool, question: Question, room: usize) -> usize {
     let n = positions(chart);
-    let lines = get(walk, NOTES, LINES) % 1024;
-    let disturbed = count(walk, BEST_LED, lines, 1);
-    if question.number != 0 {
+    let lines = best.length % 1024;
+    if question.text.number != 0 {
         return 5;
     }
     if question.choices < n {
@@ -183,19 +165,16 @@ fn answer_due(chart: &Chart, walk: &Table, legal: bool, question: Question, room
     if room < lines * 12 {
         return 10;
     }
-    if disturbed < 2 { disturbed } else { 2 }
+    best.disturbances().min(2)
 }
 
-fn count_way(walk: &Table, answered: usize, tally: &mut Tally) {
-    let lines = get(walk, NOTES, LINES);
+fn count_way(walk: &Walk, answered: usize, tally: &mut Tally) {
     add(tally, answered, 1);
-    add(tally, PLAYS, get(walk, NOTES, FOUND));
+    add(tally, PLAYS, walk.found);
     if answered < 3 {
-        add(tally, OF_MOVES, get(walk, NOTES, BY_MOVES));
-        add(tally, OF_POSITIONS, get(walk, NOTES, BY_POSITION));
-        if tally[LONGEST] < lines {
-            tally[LONGEST] = lines;
-        }
+        add(tally, OF_MOVES, usize::from(walk.by_moves));
+        add(tally, OF_POSITIONS, usize::from(walk.by_position));
+        tally[LONGEST] = tally[LONGEST].max(walk.best.length);
     }
 }
 
@@ -206,54 +185,35 @@ fn same_answer(
     row: &[u16; 512],
     question: Question,
     room: usize,
-    walk: &Table,
+    best: &Play,
     answered: usize,
 ) -> bool {
     let mut page = [b'#'; 65536];
     let mut lent = [b'#'; 65536];
-    let lines = if answered < 3 {
-        get(walk, NOTES, LINES)
-    } else {
-        0
-    };
-    write_way(&mut page, walk, lines);
-    let answer = ask(text, row, question, &mut lent, room);
+    let lines = if answered < 3 { best.length } else { 0 };
+    write_way(&mut page, best, lines);
+    let answer = list_way_to_ruin(
+        text,
+        &row[..question.choices.min(512)],
+        question.position,
+        &mut lent[..room.min(65536)],
+    );
     let same = same_pages(&page, &lent, 8192);
     let number = match answered {
-        5 => question.number,
+        5 => question.text.number,
         7 => 12,
         8 => 13,
         9 => 19,
         _ => 10,
     };
     match answer {
-        Listed::Lines(x) => same & (answered < 3) & (x == lines),
-        Listed::Refused(refusal) => {
-            same & (3 <= answered) & is_refusal(refusal, number, question.line)
-        }
+        Ok(x) => same & (answered < 3) & (x == lines),
+        Err(refusal) => { same & (3 <= answered) & is_refusal(refusal, number, question.text.line) }
     }
 }
 
-fn write_way(page: &mut Page, walk: &Table, lines: usize) {
-    let mut k = 0;
-    while k < lines {
-        put_numbers(page, k, 87, get(walk, BEST, k), get(walk, BEST_LED, k));
-        k += 1;
+fn write_way(page: &mut Page, best: &Play, lines: usize) {
+    for (k, (place, led)) in best.places.iter().zip(&best.led).take(lines).enumerate() {
+        put_numbers(page, k, 87, *place, usize::from(*led));
     }
-}
-
-fn ask(text: &[u8], row: &[u16], question: Question, lent: &mut [u8], room: usize) -> Listed {
-    let choices = question.choices;
-    if row.len() < choices {
-        return Listed::Lines(99999);
-    }
-    if lent.len() < room {
-        return Listed::Lines(99999);
-    }
-    list_way_to_ruin(
-        text,
-        &row[0..choices],
-        question.position,
-        &mut lent[0..room],
-    )
 }

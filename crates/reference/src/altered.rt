@@ -7,20 +7,16 @@ use crate::sheet::{
 
 // How many choices there are at a position, one where none is made.
 pub fn ways(chart: &Chart, v: usize) -> usize {
-    if v < positions(chart) {
-        if owner(chart, v) == CONTROLLER {
-            return cell(chart, COUNTS, MEANT + v % 512);
-        }
+    if v < positions(chart) && owner(chart, v) == CONTROLLER {
+        cell(chart, COUNTS, MEANT + v % 512)
+    } else {
+        1
     }
-    1
 }
 
 pub fn choose_drawn(chart: &Chart, table: &mut Table, row: &mut [u16; 512], seed: &mut usize) {
-    let n = positions(chart);
-    let mut v = 0;
-    while v < n {
+    for v in 0..positions(chart) {
         choose(chart, table, row, v, below(seed, ways(chart, v)));
-        v += 1;
     }
 }
 
@@ -65,5 +61,5 @@ fn turned(x: usize, back: usize, size: usize, past: usize) -> usize {
     if x < size {
         return x - 1;
     }
-    if size == 0 { 0 } else { size - 1 }
+    size.saturating_sub(1)
 }

@@ -1,27 +1,25 @@
 // The library's answers in numbers.
-use checking::Checked;
 use refusal::{Numbers, Refusal};
-use writing::Written;
 
 // Accepted, or the refusal.
-pub fn numbers_of(answer: Checked) -> Numbers {
+pub fn numbers_of(answer: Result<(), Refusal>) -> Numbers {
     match answer {
-        Checked::Accepted => Numbers::none(),
-        Checked::Refused(r) => r.numbers(),
+        Ok(()) => Numbers::none(),
+        Err(r) => Numbers::from(r),
     }
 }
 
 // The length, or a number that no text has.
-pub fn length_of(answer: Written) -> usize {
+pub fn length_of(answer: Result<usize, Refusal>) -> usize {
     match answer {
-        Written::Length(k) => k,
-        Written::Refused(_) => 99999,
+        Ok(k) => k,
+        Err(_) => 99999,
     }
 }
 
 // Whether a refusal has this number and line, and no position and condition.
 pub fn is_refusal(refusal: Refusal, number: usize, line: usize) -> bool {
-    let r = refusal.numbers();
+    let r = Numbers::from(refusal);
     let placed = (r.line == line) & (r.position == 0) & (r.condition == 0);
     placed & (r.number as usize == number)
 }

@@ -5,62 +5,47 @@ use crate::sheet::{
     is_unsafe, owner, positions,
 };
 
-// Where a plate is at fault, and the condition; condition 0 where it is accepted.
+// Where a plate is at fault, and the condition.
 #[derive(Clone, Copy)]
 pub struct Fault {
     pub position: usize,
     pub condition: usize,
 }
 
-// The first fault, positions from 0 up; condition 6 is answered with position n.
-pub fn first_fault(chart: &Chart, table: &Table) -> Fault {
+// The first fault, positions from 0 up, none where the plate is accepted; condition 6 is answered with position n.
+pub fn first_fault(chart: &Chart, table: &Table) -> Option<Fault> {
     let n = positions(chart);
-    let mut v = 0;
-    while v < n {
-        let condition = fault_at(chart, table, v);
-        if condition != 0 {
-            return Fault {
+    for v in 0..n {
+        if let Some(condition) = fault_at(chart, table, v) {
+            return Some(Fault {
                 position: v,
                 condition,
-            };
-        }
-        v += 1;
-    }
-    if counted(chart, table) {
-        Fault {
-            position: 0,
-            condition: 0,
-        }
-    } else {
-        Fault {
-            position: n,
-            condition: 6,
+            });
         }
     }
+    (!counted(chart, table)).then_some(Fault {
+        position: n,
+        condition: 6,
+    })
 }
 
-fn fault_at(chart: &Chart, table: &Table, v: usize) -> usize {
+fn fault_at(chart: &Chart, table: &Table, v: usize) -> Option<usize> {
     let value = get(table, VALUE, v);
     // An unsafe position has value 0.
-    if is_unsafe(chart, v) {
-        if value != 0 {
-            return 1;
-        }
+    if is_unsafe(chart, v) && value != 0 {
+        return Some(1);
     }
     // The step is `-` exactly when the value is "ever".
     if (get(table, STEP, v) == NONE) != (value == NONE) {
-        return 2;
+        return Some(2);
     }
     if !legal(chart, table, v) {
-        return 3;
+        return Some(3);
     }
     if !held(chart, table, v, value) {
-        return 4;
+        return Some(4);
     }
-    if !ruined(chart, table, v, value) {
-        return 5;
-    }
-    0
+    (!ruined(chart, table, v, value)).then_some(5)
 }
 
 // The choice is a meant target at O, `-` at L and at R.
@@ -79,10 +64,8 @@ fn held(chart: &Chart, table: &Table, v: usize, value: usize) -> bool {
     if letter == LANE {
         return value <= over(chart, table, v, MEANT, Weight::Entry(VALUE), LEAST);
     }
-    if letter == CONTROLLER {
-        if get(table, VALUE, get(table, CHOICE, v)) < value {
-            return false;
-        }
+    if letter == CONTROLLER && get(table, VALUE, get(table, CHOICE, v)) < value {
+        return false;
     }
     less_one(value) <= over(chart, table, v, DISTURBED, Weight::Entry(VALUE), LEAST)
 }
@@ -90,18 +73,16 @@ fn held(chart: &Chart, table: &Table, v: usize, value: usize) -> bool {
 // "ever" less one is "ever".
 fn less_one(value: usize) -> usize {
     if value == NONE {
-        return NONE;
+        NONE
+    } else {
+        value.saturating_sub(1)
     }
-    if value == 0 { 0 } else { value - 1 }
 }
 
 // A safe position of finite value: at O some disturbance's target has a smaller value, or all meant targets are earlier; at L some
 // meant target is earlier; at R some disturbance's target has a smaller value.
 fn ruined(chart: &Chart, table: &Table, v: usize, value: usize) -> bool {
-    if value == NONE {
-        return true;
-    }
-    if is_unsafe(chart, v) {
+    if value == NONE || is_unsafe(chart, v) {
         return true;
     }
     if owner(chart, v) == LANE {
@@ -120,11 +101,5 @@ fn ruined(chart: &Chart, table: &Table, v: usize, value: usize) -> bool {
 fn counted(chart: &Chart, table: &Table) -> bool {
     let mut copy = *table;
     sum_up(chart, &mut copy);
-    if get(table, HEADER, 0) != get(&copy, HEADER, 0) {
-        return false;
-    }
-    if get(table, HEADER, 1) != get(&copy, HEADER, 1) {
-        return false;
-    }
-    get(table, HEADER, 2) == get(&copy, HEADER, 2)
+    (0..3).all(|k| get(table, HEADER, k) == get(&copy, HEADER, k))
 }

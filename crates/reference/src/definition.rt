@@ -25,11 +25,11 @@ pub enum Weight {
 fn weigh(table: &Table, v: usize, t: usize, weight: Weight) -> usize {
     match weight {
         Weight::Entry(column) => get(table, column, t),
-        Weight::Valued(x) => { if get(table, VALUE, t) == x { 1 } else { 0 } }
+        Weight::Valued(x) => usize::from(get(table, VALUE, t) == x),
         Weight::Number(x) => { if get(table, VALUE, t) == x { t } else { NONE } }
-        Weight::Named(x) => { if t == x { 1 } else { 0 } }
+        Weight::Named(x) => usize::from(t == x),
         Weight::Round => round(table, v, t),
-        Weight::Earlier => earlier(table, v, t),
+        Weight::Earlier => usize::from(earlier(table, v, t)),
     }
 }
 
@@ -47,18 +47,10 @@ fn round(table: &Table, v: usize, t: usize) -> usize {
 }
 
 // Smaller value, or equal value and smaller step.
-fn earlier(table: &Table, v: usize, t: usize) -> usize {
+fn earlier(table: &Table, v: usize, t: usize) -> bool {
     let here = get(table, VALUE, v);
     let there = get(table, VALUE, t);
-    if there < here {
-        return 1;
-    }
-    if there == here {
-        if get(table, STEP, t) < get(table, STEP, v) {
-            return 1;
-        }
-    }
-    0
+    there < here || (there == here && get(table, STEP, t) < get(table, STEP, v))
 }
 
 // Which of two weights is taken.
@@ -67,11 +59,7 @@ pub const LEAST: bool = false;
 pub const GREATEST: bool = true;
 
 fn further(x: usize, y: usize, end: bool) -> usize {
-    if end == GREATEST {
-        if x < y { y } else { x }
-    } else {
-        if y < x { y } else { x }
-    }
+    if end == GREATEST { x.max(y) } else { x.min(y) }
 }
 
 // The least weight over v's moves of a kind, none if there are none; or the greatest, 0 if there are none.
@@ -85,11 +73,9 @@ pub fn over(
 ) -> usize {
     let count = cell(chart, COUNTS, kind % 4096 + v % 512);
     let mut x = if end == GREATEST { 0 } else { NONE };
-    let mut i = 0;
-    while i < count {
+    for i in 0..count {
         let t = target(chart, v, kind, i);
         x = further(x, weigh(table, v, t, weight), end);
-        i += 1;
     }
     x
 }
@@ -104,40 +90,18 @@ pub fn target(chart: &Chart, v: usize, kind: usize, i: usize) -> usize {
     cell(chart, RIGHT, first + meant)
 }
 
-// How an entry comes about.
-#[derive(Clone, Copy)]
-pub enum Rule {
-    All(usize),
-    // v is in the set that follows the one whose positions have this value.
-    Member(usize),
-    // This value where v is in the set, else what it was.
-    Value(usize),
-    Choice,
-    Step,
-    Worth,
-    Pair,
-}
-
-fn entry_of(chart: &Chart, table: &Table, v: usize, rule: Rule) -> usize {
-    match rule {
-        Rule::All(x) => x,
-        Rule::Member(k) => member(chart, table, v, k),
-        Rule::Value(x) => {
-            if get(table, MEMBER, v) == 1 {
-                x
-            } else {
-                get(table, VALUE, v)
-            }
-        }
-        Rule::Choice => choice(chart, table, v),
-        Rule::Step => step(chart, table, v),
-        Rule::Worth => worth(chart, table, v),
-        Rule::Pair => pair(table, v),
+// This value where v is in the set, else what it was.
+fn value(table: &Table, v: usize, x: usize) -> usize {
+    if get(table, MEMBER, v) == 1 {
+        x
+    } else {
+        get(table, VALUE, v)
     }
 }
 
-// v is safe; at L every meant target is in the set; at O some meant target is; at O and at R every disturbance's target was in the set
-// before, whose positions have the value k by now. At R a play may stop, so nothing else is asked.
+// 1 where v is in the set that follows the one whose positions have the value k: v is safe; at L every meant target is in the set; at O some
+// meant target is; at O and at R every disturbance's target was in the set before, whose positions have the value k by now. At R a play may
+// stop, so nothing else is asked.
 fn member(chart: &Chart, table: &Table, v: usize, k: usize) -> usize {
     if is_unsafe(chart, v) {
         return 0;
@@ -178,15 +142,8 @@ fn step(chart: &Chart, table: &Table, v: usize) -> usize {
         return more(over(chart, table, v, MEANT, Weight::Round, LEAST));
     }
     if 0 < value {
-        if over(
-            chart,
-            table,
-            v,
-            DISTURBED,
-            Weight::Valued(value - 1),
-            GREATEST,
-        ) == 1
-        {
+        let before = Weight::Valued(value - 1);
+        if over(chart, table, v, DISTURBED, before, GREATEST) == 1 {
             return 0;
         }
     }
@@ -220,54 +177,50 @@ fn pair(table: &Table, v: usize) -> usize {
     if value == NONE {
         return 0;
     }
-    let mut w = 0;
-    while w < v {
-        if get(table, VALUE, w) == value {
-            if get(table, STEP, w) == step {
-                return 0;
-            }
-        }
-        w += 1;
-    }
-    1
+    let same = |w| get(table, VALUE, w) == value && get(table, STEP, w) == step;
+    usize::from(!(0..v).any(same))
 }
 
 // Applies a rule at every position, and says whether that changed any entry of the column.
-fn apply(chart: &Chart, table: &mut Table, column: usize, rule: Rule) -> bool {
-    let n = positions(chart);
+fn apply<F: Fn(&Table, usize) -> usize>(
+    chart: &Chart,
+    table: &mut Table,
+    column: usize,
+    rule: F,
+) -> bool
+    requires { F.IsAlwaysCallable rule }
+{
     let mut changed = false;
-    let mut v = 0;
-    while v < n {
-        let x = entry_of(chart, table, v, rule);
+    for v in 0..positions(chart) {
+        let x = rule(table, v);
         if get(table, column, v) != x {
             put(table, column, v, x);
             changed = true;
         }
-        v += 1;
     }
     changed
 }
 
 // Applies a rule until nothing changes. Each round settles one position more, so that n + 1 rounds are enough.
-fn settle(chart: &Chart, table: &mut Table, column: usize, rule: Rule) {
+fn settle<F: Fn(&Table, usize) -> usize>(chart: &Chart, table: &mut Table, column: usize, rule: F)
+    requires { F.IsAlwaysCallable rule }
+{
     let rounds = positions(chart) % 1024 + 1;
-    let mut i = 0;
-    while i < rounds {
-        if !apply(chart, table, column, rule) {
+    for _ in 0..rounds {
+        if !apply(chart, table, column, &rule) {
             return;
         }
-        i += 1;
     }
 }
 
 // Values, choices, steps and the first line's numbers of a chart.
 pub fn solve(chart: &Chart, table: &mut Table) {
-    apply(chart, table, VALUE, Rule::All(0));
+    apply(chart, table, VALUE, |_, _| 0);
     levels(chart, table);
-    apply(chart, table, VALUE, Rule::Value(NONE));
-    apply(chart, table, CHOICE, Rule::Choice);
-    apply(chart, table, STEP, Rule::All(NONE));
-    settle(chart, table, STEP, Rule::Step);
+    apply(chart, table, VALUE, |t, v| value(t, v, NONE));
+    apply(chart, table, CHOICE, |t, v| choice(chart, t, v));
+    apply(chart, table, STEP, |_, _| NONE);
+    settle(chart, table, STEP, |t, v| step(chart, t, v));
     sum_up(chart, table);
 }
 
@@ -276,22 +229,20 @@ pub fn solve(chart: &Chart, table: &mut Table) {
 // is in that one is in each.
 fn levels(chart: &Chart, table: &mut Table) {
     let n = positions(chart);
-    let mut k = 0;
-    while k < n {
-        apply(chart, table, MEMBER, Rule::All(1));
-        settle(chart, table, MEMBER, Rule::Member(k));
-        apply(chart, table, VALUE, Rule::Value(k + 1));
+    for k in 0..n {
+        apply(chart, table, MEMBER, |_, _| 1);
+        settle(chart, table, MEMBER, |t, v| member(chart, t, v, k));
+        apply(chart, table, VALUE, |t, v| value(t, v, k + 1));
         if count(table, VALUE, n, k) == 0 {
             return;
         }
-        k += 1;
     }
 }
 
 // The first line's numbers, from the values and steps in the table.
 pub fn sum_up(chart: &Chart, table: &mut Table) {
     let n = positions(chart);
-    apply(chart, table, PAIR, Rule::Pair);
+    apply(chart, table, PAIR, pair);
     let rounds = count(table, PAIR, n, 1);
     let best = highest(table, n);
     let evers = count(table, VALUE, n, NONE);
@@ -302,33 +253,20 @@ pub fn sum_up(chart: &Chart, table: &mut Table) {
 
 // How many of the first n entries of a column are x.
 pub fn count(table: &Table, column: usize, n: usize, x: usize) -> usize {
-    let mut found = 0;
-    let mut v = 0;
-    while v < n {
-        if get(table, column, v) == x {
-            found = more(found);
-        }
-        v += 1;
-    }
-    found
+    (0..n).filter(|v| get(table, column, *v) == x).count()
 }
 
 // The highest finite value, or none.
 fn highest(table: &Table, n: usize) -> usize {
-    let mut past = 0;
-    let mut v = 0;
-    while v < n {
-        let x = get(table, VALUE, v);
-        if x != NONE {
-            past = further(past, more(x), GREATEST);
-        }
-        v += 1;
-    }
-    if past == 0 { NONE } else { past - 1 }
+    (0..n)
+        .map(|v| get(table, VALUE, v))
+        .filter(|x| *x != NONE)
+        .max()
+        .unwrap_or(NONE)
 }
 
 // The worths of the choices in the table.
 pub fn weigh_choices(chart: &Chart, table: &mut Table) {
-    apply(chart, table, WORTH, Rule::All(NONE));
-    settle(chart, table, WORTH, Rule::Worth);
+    apply(chart, table, WORTH, |_, _| NONE);
+    settle(chart, table, WORTH, |t, v| worth(chart, t, v));
 }

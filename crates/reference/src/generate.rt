@@ -4,13 +4,26 @@ use crate::sheet::{
     place, positions, put_line,
 };
 
-// Which charts are drawn: the count of positions; how many moves a position has at most, and 1 where it has that many exactly; how
+// Which charts are drawn: the count of positions; how many moves a position has at most, and whether it has that many exactly; how
 // many positions of a hundred are the lane's, and how many unsafe; how far off a target is, 0 for anywhere; and how many positions of
 // a hundred are of rest. Where targets are near, disturbances lead downward and position 0 is unsafe, so that values grow high.
-type Shape = [usize; 7];
+#[derive(Clone, Copy)]
+struct Shape {
+    positions: usize,
+    most: usize,
+    exact: bool,
+    lanes: usize,
+    dangers: usize,
+    reach: usize,
+    rests: usize,
+}
 
 // By which marks are left blank: what the draws have come to, apart from those of the charts, and the count of blank marks.
-pub type Blanks = [usize; 2];
+#[derive(Clone, Copy)]
+pub struct Blanks {
+    pub seed: usize,
+    pub count: usize,
+}
 
 // The next pseudo-random number, below k.
 pub fn below(seed: &mut usize, k: usize) -> usize {
@@ -35,23 +48,16 @@ pub fn build(chart: &mut Chart, kind: usize, number: usize, seed: &mut usize) {
 
 // Leaves so many of a hundred marks 0 of a chart blank.
 pub fn blank_marks(chart: &mut Chart, share: usize, blanks: &mut Blanks) {
-    let n = positions(chart);
-    let mut v = 0;
-    while v < n {
+    for v in 0..positions(chart) {
         blank_mark(chart, v, share, blanks);
-        v += 1;
     }
 }
 
 fn blank_mark(chart: &mut Chart, v: usize, share: usize, blanks: &mut Blanks) {
-    let mut seed = blanks[0];
-    let drawn = below(&mut seed, 100);
-    blanks[0] = seed;
-    if cell(chart, RIGHT, v % 512 + 1) == 0 {
-        if drawn < share {
-            put_line(chart, v % 512 + 1, owner(chart, v), v, NONE);
-            blanks[1] = more(blanks[1]);
-        }
+    let drawn = below(&mut blanks.seed, 100);
+    if cell(chart, RIGHT, v % 512 + 1) == 0 && drawn < share {
+        put_line(chart, v % 512 + 1, owner(chart, v), v, NONE);
+        blanks.count = more(blanks.count);
     }
 }
 
@@ -98,11 +104,10 @@ fn numbered_position(chart: &mut Chart, v: usize, number: usize, n: usize) {
 
 // Moves into a set of the positions 0 and 1, given by its bits.
 fn add_set(chart: &mut Chart, v: usize, kind: usize, set: usize) {
-    if set % 2 == 1 {
-        add_move(chart, v, kind, 0);
-    }
-    if set / 2 == 1 {
-        add_move(chart, v, kind, 1);
+    for t in 0..2 {
+        if set >> t & 1 == 1 {
+            add_move(chart, v, kind, t);
+        }
     }
 }
 
@@ -110,10 +115,8 @@ fn add_set(chart: &mut Chart, v: usize, kind: usize, set: usize) {
 // grow to n - 1, and at the controller's and at those of rest by a disturbance, so that values do. Of rest are all positions or none.
 fn straight(chart: &mut Chart, n: usize, letter: usize) {
     put_line(chart, 0, 72, n, 0);
-    let mut v = 0;
-    while v < n {
+    for v in 0..n {
         straight_position(chart, v, letter);
-        v += 1;
     }
 }
 
@@ -155,12 +158,10 @@ fn drawn(chart: &mut Chart, kind: usize, seed: &mut usize) {
         below(seed, 40),
         rests,
     );
-    let n = shape[0] % 1024;
+    let n = shape.positions % 1024;
     put_line(chart, 0, 72, n, 0);
-    let mut v = 0;
-    while v < n {
+    for v in 0..n {
         draw_position(chart, v, &shape, seed);
-        v += 1;
     }
 }
 
@@ -174,30 +175,38 @@ fn draw_rests(kind: usize, seed: &mut usize) -> usize {
 
 fn shape_of(kind: usize, size: usize, lanes: usize, dangers: usize, rests: usize) -> Shape {
     let few = size % 64;
-    match kind {
-        3 => [few % 6 + 5, 4, 0, lanes / 4, 0, few % 3 + 1, rests],
-        4 => [few % 6 + 3, 6, 0, lanes, dangers, 0, rests],
-        5 => [few + 20, 5, 0, lanes, dangers / 4, 0, rests],
-        6 => [few + 20, 6, 0, lanes, dangers / 10, few % 4 + 1, rests],
-        7 => [512, 8, 1, lanes, dangers / 10, 0, rests],
-        9 => [3, 6, 0, lanes, dangers, 0, rests],
-        _ => [512, 8, 0, lanes / 4, 0, few % 8 + 1, rests],
+    let (positions, most, lanes, dangers, reach) = match kind {
+        3 => (few % 6 + 5, 4, lanes / 4, 0, few % 3 + 1),
+        4 => (few % 6 + 3, 6, lanes, dangers, 0),
+        5 => (few + 20, 5, lanes, dangers / 4, 0),
+        6 => (few + 20, 6, lanes, dangers / 10, few % 4 + 1),
+        7 => (512, 8, lanes, dangers / 10, 0),
+        9 => (3, 6, lanes, dangers, 0),
+        _ => (512, 8, lanes / 4, 0, few % 8 + 1),
+    };
+    Shape {
+        positions,
+        most,
+        exact: kind == 7,
+        lanes,
+        dangers,
+        reach,
+        rests,
     }
 }
 
 fn draw_position(chart: &mut Chart, v: usize, shape: &Shape, seed: &mut usize) {
     let mark = draw_mark(v, shape, below(seed, 100));
-    let most = shape[1];
-    let count = if shape[2] == 1 {
-        most
+    let count = if shape.exact {
+        shape.most
     } else {
-        below(seed, most) % 64 + 1
+        below(seed, shape.most) % 64 + 1
     };
-    if draws_rest(shape[6], seed) {
+    if draws_rest(shape.rests, seed) {
         draw_rest(chart, v, mark, shape, count, seed);
         return;
     }
-    if below(seed, 100) < shape[3] {
+    if below(seed, 100) < shape.lanes {
         place(chart, v, LANE, mark);
         draw_moves(chart, v, MEANT, shape, count, seed);
     } else {
@@ -212,10 +221,7 @@ fn draw_position(chart: &mut Chart, v: usize, shape: &Shape, seed: &mut usize) {
 
 // Nothing is drawn where no position is to be of rest.
 fn draws_rest(rests: usize, seed: &mut usize) -> bool {
-    if rests == 0 {
-        return false;
-    }
-    below(seed, 100) < rests
+    rests != 0 && below(seed, 100) < rests
 }
 
 // A position of rest: up to so many disturbances, or so many exactly. A chart has a move, so the last position has some where no other
@@ -229,23 +235,15 @@ fn draw_rest(
     seed: &mut usize,
 ) {
     let moved = cell(chart, RIGHT, 0);
-    let last = (v % 1024 + 1 == shape[0]) & (moved == 0);
+    let last = (v % 1024 + 1 == shape.positions) & (moved == 0);
     let some = below(seed, count % 64 + 1);
-    let disturbed = if last | (shape[2] == 1) { count } else { some };
+    let disturbed = if last | shape.exact { count } else { some };
     place(chart, v, REST, mark);
     draw_moves(chart, v, DISTURBED, shape, disturbed, seed);
 }
 
 fn draw_mark(v: usize, shape: &Shape, x: usize) -> usize {
-    if x < shape[4] {
-        return 1;
-    }
-    if v == 0 {
-        if 0 < shape[5] {
-            return 1;
-        }
-    }
-    0
+    usize::from(x < shape.dangers || (v == 0 && 0 < shape.reach))
 }
 
 // Moves into so many targets, in rising order.
@@ -257,7 +255,7 @@ fn draw_moves(
     count: usize,
     seed: &mut usize,
 ) {
-    let mut wanted = [0u8; 512];
+    let mut wanted = [false; 512];
     draw_targets(v, kind, shape, count, seed, &mut wanted);
     add_wanted(chart, v, kind, &wanted);
 }
@@ -269,25 +267,23 @@ fn draw_targets(
     shape: &Shape,
     count: usize,
     seed: &mut usize,
-    wanted: &mut [u8; 512],
+    wanted: &mut [bool; 512],
 ) {
     let mut have = 0;
-    let mut i: usize = 0;
-    while i < 64 {
+    for _ in 0..64 {
         if have < count {
             let t = draw_target(v, kind, shape, seed) % 512;
-            if wanted[t] == 0 {
-                wanted[t] = 1;
+            if !wanted[t] {
+                wanted[t] = true;
                 have += 1;
             }
         }
-        i += 1;
     }
 }
 
 fn draw_target(v: usize, kind: usize, shape: &Shape, seed: &mut usize) -> usize {
-    let n = shape[0];
-    let reach = shape[5] % 512;
+    let n = shape.positions;
+    let reach = shape.reach % 512;
     if reach == 0 {
         return below(seed, n);
     }
@@ -300,21 +296,13 @@ fn draw_target(v: usize, kind: usize, shape: &Shape, seed: &mut usize) -> usize 
 
 // a less b, kept within the positions.
 fn clipped(a: usize, b: usize, n: usize) -> usize {
-    if a <= b {
-        return 0;
-    }
-    if a - b < n {
-        return a - b;
-    }
-    if n == 0 { 0 } else { n - 1 }
+    a.saturating_sub(b).min(n.saturating_sub(1))
 }
 
-fn add_wanted(chart: &mut Chart, v: usize, kind: usize, wanted: &[u8; 512]) {
-    let mut t: usize = 0;
-    while t < 512 {
-        if wanted[t] == 1 {
+fn add_wanted(chart: &mut Chart, v: usize, kind: usize, wanted: &[bool; 512]) {
+    for (t, wanted) in wanted.iter().enumerate() {
+        if *wanted {
             add_move(chart, v, kind, t);
         }
-        t += 1;
     }
 }

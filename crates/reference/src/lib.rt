@@ -7,6 +7,7 @@ pub mod answers;
 pub mod checker;
 pub mod definition;
 pub mod generate;
+pub mod kinds;
 pub mod sheet;
 pub mod tally;
 pub mod text;

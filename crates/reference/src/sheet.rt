@@ -65,16 +65,9 @@ pub fn is_unsafe(chart: &Chart, v: usize) -> bool {
 
 // How many positions are of rest.
 pub fn rests(chart: &Chart) -> usize {
-    let n = positions(chart);
-    let mut found = 0;
-    let mut v = 0;
-    while v < n {
-        if owner(chart, v) == REST {
-            found = more(found);
-        }
-        v += 1;
-    }
-    found
+    (0..positions(chart))
+        .filter(|v| owner(chart, *v) == REST)
+        .count()
 }
 
 pub fn put_line(chart: &mut Chart, i: usize, letter: usize, left: usize, right: usize) {
@@ -115,16 +108,11 @@ pub fn more(x: usize) -> usize {
 
 // The first of n entries at which two columns differ, n if they do at none.
 pub fn first_difference(table: &Table, a: usize, b: usize, n: usize) -> usize {
-    let mut v = 0;
-    while v < n {
-        if get(table, a, v) != get(table, b, v) {
-            return v;
-        }
-        v += 1;
-    }
-    n
+    (0..n)
+        .find(|v| get(table, a, *v) != get(table, b, *v))
+        .unwrap_or(n)
 }
 
 pub fn wide(x: u16) -> usize {
-    x as usize
+    usize::from(x)
 }

@@ -40,11 +40,9 @@ pub fn report_line(rt: &impl Print, tally: &Tally, counts: usize, name: &[u8]) -
 
 // The first counts.
 pub fn report(rt: &impl Print, tally: &Tally, counts: usize) -> io::Result<()> {
-    let mut k: usize = 0;
-    while k < counts {
-        rt.print(tally[k % 19])?;
+    for count in tally.iter().take(counts) {
+        rt.print(*count)?;
         rt.write_all(b" ")?;
-        k += 1;
     }
     Ok(())
 }

@@ -23,14 +23,12 @@ fn glyph(x: usize, k: usize, word: &[u8; 5]) -> u8 {
             return b' ';
         }
     }
-    (left % 10 + 48) as u8
+    b'0' + (left % 10) as u8
 }
 
 fn put_field(page: &mut Page, at: usize, x: usize, word: &[u8; 5]) {
-    let mut k: usize = 0;
-    while k < 5 {
+    for k in 0..5 {
         page[(at % 65536 + k) % 65536] = glyph(x, k, word);
-        k += 1;
     }
 }
 
@@ -49,10 +47,8 @@ pub fn put_numbers(page: &mut Page, k: usize, letter: usize, left: usize, right:
 }
 
 fn chart_lines(page: &mut Page, chart: &Chart, lines: usize) {
-    let mut i = 0;
-    while i < lines {
+    for i in 0..lines {
         put_line(page, i, cell(chart, LETTER, i), chart, i);
-        i += 1;
     }
 }
 
@@ -122,35 +118,18 @@ fn first_line(page: &mut Page, table: &Table, n: usize) {
 // Writes a plate's text, and answers its length.
 pub fn write_plate(page: &mut Page, table: &Table, n: usize) -> usize {
     first_line(page, table, n);
-    let mut v = 0;
-    while v < n {
+    for v in 0..n {
         plate_line(page, table, v);
-        v += 1;
     }
     n % 1024 * 22 + 22
 }
 
 // The first bytes of a page.
 pub fn part(page: &Page, size: usize) -> &[u8] {
-    front(page, size)
-}
-
-fn front(text: &[u8], size: usize) -> &[u8] {
-    if size <= text.len() {
-        &text[0..size]
-    } else {
-        text
-    }
+    &page[..size.min(65536)]
 }
 
 // The first bytes of two pages.
 pub fn same_pages(a: &Page, b: &Page, size: usize) -> bool {
-    let mut i: usize = 0;
-    while i < size {
-        if a[i % 65536] != b[i % 65536] {
-            return false;
-        }
-        i += 1;
-    }
-    true
+    part(a, size) == part(b, size)
 }

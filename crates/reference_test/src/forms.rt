@@ -5,8 +5,8 @@ use reference::sheet::{
     CONTROLLER, COUNTS, Chart, DISTURBED, LANE, MEANT, cell, is_unsafe, owner, positions, rests,
 };
 
-// A position's form: its letter, 0 past the last form, its mark, and the sets of its meant targets and of its disturbances'.
-#[derive(Clone, Copy)]
+// A position's form: its letter, its mark, and the sets of its meant targets and of its disturbances'.
+#[derive(Clone, Copy, PartialEq, Eq)]
 struct Form {
     letter: usize,
     mark: usize,
@@ -24,10 +24,8 @@ pub fn index_of(chart: &Chart) -> usize {
     let n = positions(chart);
     let forms = forms_of(n);
     let mut index = 0;
-    let mut v = 0;
-    while v < n {
-        index = appended(index, forms, rank(form_at(chart, v), n));
-        v += 1;
+    for v in 0..n {
+        index = appended(index, forms, rank(Some(form_at(chart, v)), n));
     }
     index
 }
@@ -52,63 +50,48 @@ fn appended(numeral: usize, forms: usize, digit: usize) -> usize {
 
 // How many forms a position can have where there are n.
 fn forms_of(n: usize) -> usize {
-    rank(
-        Form {
-            letter: 0,
-            mark: 0,
-            meant: 1,
-            disturbed: 0,
-        },
-        n,
-    )
+    rank(None, n)
 }
 
-// How many forms come before this one.
-fn rank(form: Form, n: usize) -> usize {
-    let mut at = Form {
+// How many forms come before this one; before none are all of them.
+fn rank(form: Option<Form>, n: usize) -> usize {
+    let mut at = Some(Form {
         letter: CONTROLLER,
         mark: 0,
         meant: 1,
         disturbed: 0,
-    };
-    let mut k: usize = 0;
-    while k < 1000 {
-        if same_form(at, form) {
+    });
+    for k in 0..1000 {
+        if at == form {
             return k;
         }
-        at = next_form(at, n);
-        k += 1;
+        at = at.and_then(|f| next_form(f, n));
     }
-    k
-}
-
-fn same_form(a: Form, b: Form) -> bool {
-    let places = (a.letter == b.letter) & (a.mark == b.mark);
-    places & (a.meant == b.meant) & (a.disturbed == b.disturbed)
+    1000
 }
 
 // "Within a position O comes before L, then the mark, then the meant set, then the disturbance set": the last of these that can goes on, and
 // those after it begin again. A meant set is not empty.
-fn next_form(form: Form, n: usize) -> Form {
+fn next_form(form: Form, n: usize) -> Option<Form> {
     let last = set_of_all(n);
     let mut next = form;
     next.disturbed = 0;
     if (form.letter == CONTROLLER) & (form.disturbed < last) {
         next.disturbed = form.disturbed % 8 + 1;
-        return next;
+        return Some(next);
     }
     next.meant = 1;
     if form.meant < last {
         next.meant = form.meant % 8 + 1;
-        return next;
+        return Some(next);
     }
     next.mark = 0;
     if form.mark == 0 {
         next.mark = 1;
-        return next;
+        return Some(next);
     }
-    next.letter = if form.letter == CONTROLLER { LANE } else { 0 };
-    next
+    next.letter = LANE;
+    (form.letter == CONTROLLER).then_some(next)
 }
 
 // The set of all n positions.
@@ -123,7 +106,7 @@ fn set_of_all(n: usize) -> usize {
 fn form_at(chart: &Chart, v: usize) -> Form {
     Form {
         letter: owner(chart, v),
-        mark: if is_unsafe(chart, v) { 1 } else { 0 },
+        mark: usize::from(is_unsafe(chart, v)),
         meant: set_at(chart, v, MEANT),
         disturbed: set_at(chart, v, DISTURBED),
     }
@@ -133,10 +116,8 @@ fn form_at(chart: &Chart, v: usize) -> Form {
 fn set_at(chart: &Chart, v: usize, kind: usize) -> usize {
     let count = cell(chart, COUNTS, kind % 4096 + v % 512);
     let mut set = 0;
-    let mut i = 0;
-    while i < count {
+    for i in 0..count {
         set = set % 8 + power(target(chart, v, kind, i)) % 8;
-        i += 1;
     }
     set
 }

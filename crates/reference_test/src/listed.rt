@@ -1,7 +1,7 @@
 // Listing: the sheet of good moves by its definition, held against the library's; and that a positional controller is optimal, its worths
 // the values, exactly when all its choices stand on the library's sheet.
-use crate::compare::{LINES, OPTIMAL, OTHERS};
-use listing::{Listed, list_good_moves};
+use crate::compare::{Case, LINES, OPTIMAL, OTHERS};
+use listing::list_good_moves;
 use reference::altered::{choose, ways};
 use reference::definition::{count, weigh_choices};
 use reference::generate::below;
@@ -10,35 +10,37 @@ use reference::sheet::{
     first_difference, get, owner, positions, put,
 };
 use reference::tally::{Tally, add, expect};
-use reference::text::{Page, lines_of, put_line, same_pages};
+use reference::text::{Page, lines_of, put_line};
+use refusal::{Numbers, Refusal};
 use std::io;
 
+// The library's sheet of a chart: its page, and the count of its lines.
+#[derive(Clone, Copy)]
+struct Sheet<'a> {
+    page: &'a Page,
+    lines: usize,
+}
+
 // All comparisons of one chart.
-pub fn compare_sheets(
-    rt: &impl Print,
-    chart: &Chart,
-    table: &Table,
-    text: &[u8],
-    tally: &mut Tally,
-) -> io::Result<()> {
+pub fn compare_sheets(rt: &impl Print, case: Case, tally: &mut Tally) -> io::Result<()> {
     let mut page = [b'#'; 65536];
-    let mut sheet = [b'#'; 65536];
-    let lines = write_sheet(&mut page, chart, table);
+    let mut lent = [b'#'; 65536];
+    let lines = write_sheet(&mut page, case.chart, case.table);
     add(tally, LINES, lines);
-    compare_rooms(rt, text, &page, lines, tally)?;
-    compare_room(rt, text, &mut sheet, 65536, &page, lines, tally)?;
-    if 3 < positions(chart) {
-        hold_drawn(rt, chart, table, text, &sheet, lines, tally)?;
+    compare_rooms(rt, case, &page, lines, tally)?;
+    compare_room(rt, case, &mut lent, 65536, &page, lines, tally)?;
+    let sheet = Sheet { page: &lent, lines };
+    if 3 < positions(case.chart) {
+        hold_drawn(rt, case, sheet, tally)
     } else {
-        hold_every(rt, chart, table, text, &sheet, lines, tally)?;
+        hold_every(rt, case, sheet, tally)
     }
-    Ok(())
 }
 
 // With as many bytes as the lines take, and with one less.
 fn compare_rooms(
     rt: &impl Print,
-    text: &[u8],
+    case: Case,
     page: &Page,
     lines: usize,
     tally: &mut Tally,
@@ -47,9 +49,9 @@ fn compare_rooms(
     let mut full = [b'#'; 65536];
     let mut short = [b'#'; 65536];
     let size = lines % 8192 * 12;
-    compare_room(rt, text, &mut full, size, page, lines, tally)?;
+    compare_room(rt, case, &mut full, size, page, lines, tally)?;
     if 0 < size {
-        compare_room(rt, text, &mut short, size - 1, &blank, lines, tally)?;
+        compare_room(rt, case, &mut short, size - 1, &blank, lines, tally)?;
     }
     Ok(())
 }
@@ -58,201 +60,146 @@ fn compare_rooms(
 fn write_sheet(page: &mut Page, chart: &Chart, table: &Table) -> usize {
     let lines = lines_of(chart);
     let mut count = 0;
-    let mut i = 0;
-    while i < lines {
+    for i in 0..lines {
         if is_good(chart, table, i) {
             put_line(page, count, 71, chart, i);
-            count = count % 8192 + 1;
+            count += 1;
         }
-        i += 1;
     }
     count
 }
 
 // A chart's line is a meant move of the controller's.
 fn is_choice(chart: &Chart, i: usize) -> bool {
-    if cell(chart, LETTER, i) != 77 {
-        return false;
-    }
-    owner(chart, cell(chart, LEFT, i)) == CONTROLLER
+    cell(chart, LETTER, i) == 77 && owner(chart, cell(chart, LEFT, i)) == CONTROLLER
 }
 
 // And its target has at least the position's value.
 fn is_good(chart: &Chart, table: &Table, i: usize) -> bool {
-    if !is_choice(chart, i) {
-        return false;
-    }
-    get(table, VALUE, cell(chart, LEFT, i)) <= get(table, VALUE, cell(chart, RIGHT, i))
+    let from = get(table, VALUE, cell(chart, LEFT, i));
+    is_choice(chart, i) && from <= get(table, VALUE, cell(chart, RIGHT, i))
 }
 
 // The answer with so much of the page lent, and every byte of it.
 fn compare_room(
     rt: &impl Print,
-    text: &[u8],
+    case: Case,
     lent: &mut Page,
     room: usize,
     page: &Page,
     lines: usize,
     tally: &mut Tally,
 ) -> io::Result<()> {
-    let answer = list_into(text, lent, room);
-    let same = same_pages(page, lent, 65536);
+    let answer = list_good_moves(case.text, &mut lent[..room.min(65536)]);
+    let same = *page == *lent;
     expect(
         rt,
         same & is_answer(answer, lines, room),
         b"listing",
-        text,
+        case.text,
         tally,
     )
 }
 
-fn list_into(text: &[u8], lent: &mut [u8], room: usize) -> Listed {
-    if room < lent.len() {
-        list_good_moves(text, &mut lent[0..room])
-    } else {
-        list_good_moves(text, lent)
-    }
-}
-
 // So many lines, or 10 where there is no room for them.
-fn is_answer(answer: Listed, lines: usize, room: usize) -> bool {
+fn is_answer(answer: Result<usize, Refusal>, lines: usize, room: usize) -> bool {
     let short = room < lines % 8192 * 12;
     match answer {
-        Listed::Lines(count) => (count == lines) & !short,
-        Listed::Refused(refusal) => {
-            let r = refusal.numbers();
+        Ok(count) => (count == lines) & !short,
+        Err(refusal) => {
+            let r = Numbers::from(refusal);
             (r.number == 10) & (r.line == 0) & short
         }
     }
 }
 
 // Each positional controller of a chart of up to three positions.
-fn hold_every(
-    rt: &impl Print,
-    chart: &Chart,
-    solved: &Table,
-    text: &[u8],
-    sheet: &Page,
-    lines: usize,
-    tally: &mut Tally,
-) -> io::Result<()> {
-    let mut code: usize = 0;
-    while code < 27 {
-        hold_numbered(rt, chart, solved, text, sheet, lines, code, tally)?;
-        code += 1;
+fn hold_every(rt: &impl Print, case: Case, sheet: Sheet, tally: &mut Tally) -> io::Result<()> {
+    for code in 0..27 {
+        hold_numbered(rt, case, sheet, [code % 3, code / 3 % 3, code / 9], tally)?;
     }
     Ok(())
 }
 
+// The controller of the choice of each number at each position, where there are so many choices.
 fn hold_numbered(
     rt: &impl Print,
-    chart: &Chart,
-    solved: &Table,
-    text: &[u8],
-    sheet: &Page,
-    lines: usize,
-    code: usize,
+    case: Case,
+    sheet: Sheet,
+    choices: [usize; 3],
     tally: &mut Tally,
 ) -> io::Result<()> {
-    let mut table = *solved;
+    let mut table = *case.table;
     let mut row = [0u16; 512];
-    let last = code / 9 < ways(chart, 2);
-    if (code % 3 < ways(chart, 0)) & (code / 3 % 3 < ways(chart, 1)) & last {
-        choose(chart, &mut table, &mut row, 0, code % 3);
-        choose(chart, &mut table, &mut row, 1, code / 3 % 3);
-        choose(chart, &mut table, &mut row, 2, code / 9);
-        hold(rt, chart, &mut table, text, sheet, lines, tally)?;
+    for (v, choice) in choices.iter().enumerate() {
+        if ways(case.chart, v) <= *choice {
+            return Ok(());
+        }
+        choose(case.chart, &mut table, &mut row, v, *choice);
     }
-    Ok(())
+    hold(rt, case, &mut table, sheet, tally)
 }
 
 // Of a larger chart the plate's own choices, some changed to other listed moves; then the same with a move that is not listed.
-fn hold_drawn(
-    rt: &impl Print,
-    chart: &Chart,
-    solved: &Table,
-    text: &[u8],
-    sheet: &Page,
-    lines: usize,
-    tally: &mut Tally,
-) -> io::Result<()> {
-    let mut table = *solved;
-    let mut seed = lines;
-    choose_listed(&mut table, sheet, lines, &mut seed);
-    hold(rt, chart, &mut table, text, sheet, lines, tally)?;
-    let i = unlisted(chart, solved, below(&mut seed, lines_of(chart)));
-    if 0 < i {
-        put(
-            &mut table,
-            CHOICE,
-            cell(chart, LEFT, i),
-            cell(chart, RIGHT, i),
-        );
-        hold(rt, chart, &mut table, text, sheet, lines, tally)?;
+fn hold_drawn(rt: &impl Print, case: Case, sheet: Sheet, tally: &mut Tally) -> io::Result<()> {
+    let chart = case.chart;
+    let mut table = *case.table;
+    let mut seed = sheet.lines;
+    choose_listed(&mut table, sheet, &mut seed);
+    hold(rt, case, &mut table, sheet, tally)?;
+    if let Some(i) = unlisted(chart, case.table, below(&mut seed, lines_of(chart))) {
+        let from = cell(chart, LEFT, i);
+        put(&mut table, CHOICE, from, cell(chart, RIGHT, i));
+        hold(rt, case, &mut table, sheet, tally)?;
     }
     Ok(())
 }
 
 // Chooses a listed move every other time.
-fn choose_listed(table: &mut Table, sheet: &Page, lines: usize, seed: &mut usize) {
-    let mut k = 0;
-    while k < lines {
+fn choose_listed(table: &mut Table, sheet: Sheet, seed: &mut usize) {
+    for k in 0..sheet.lines {
         if below(seed, 2) == 0 {
-            put(table, CHOICE, number(sheet, k, 1), number(sheet, k, 6));
+            let to = number(sheet.page, k, 6);
+            put(table, CHOICE, number(sheet.page, k, 1), to);
         }
-        k += 1;
     }
 }
 
-// The first line from one on, in a circle, that is a meant move of the controller's and not good; 0 if there is none.
-fn unlisted(chart: &Chart, table: &Table, from: usize) -> usize {
+// The first line from one on, in a circle, that is a meant move of the controller's and not good.
+fn unlisted(chart: &Chart, table: &Table, from: usize) -> Option<usize> {
     let lines = lines_of(chart);
-    let mut k = 0;
-    while k < lines {
-        let i = (from % 16384 + k % 16384) % lines;
-        if is_choice(chart, i) & !is_good(chart, table, i) {
-            return i;
-        }
-        k += 1;
-    }
-    0
+    (0..lines)
+        .map(|k| (from % 16384 + k % 16384) % lines)
+        .find(|i| is_choice(chart, *i) && !is_good(chart, table, *i))
 }
 
 // The controller of the table's choices: its worths are the values exactly when all its choices are listed.
 fn hold(
     rt: &impl Print,
-    chart: &Chart,
+    case: Case,
     table: &mut Table,
-    text: &[u8],
-    sheet: &Page,
-    lines: usize,
+    sheet: Sheet,
     tally: &mut Tally,
 ) -> io::Result<()> {
-    let n = positions(chart);
-    weigh_choices(chart, table);
+    let n = positions(case.chart);
+    weigh_choices(case.chart, table);
     let optimal = first_difference(table, VALUE, WORTH, n) == n;
-    let choices = chosen(table, sheet, lines) % 8192 + count(table, CHOICE, n, NONE) % 8192;
+    let choices = chosen(table, sheet) % 8192 + count(table, CHOICE, n, NONE) % 8192;
     add(tally, if optimal { OPTIMAL } else { OTHERS }, 1);
     expect(
         rt,
         optimal == (choices == n),
         b"listed choices",
-        text,
+        case.text,
         tally,
     )
 }
 
 // How many of a sheet's lines are choices. A line stands on it once.
-fn chosen(table: &Table, sheet: &Page, lines: usize) -> usize {
-    let mut found = 0;
-    let mut k = 0;
-    while k < lines {
-        if get(table, CHOICE, number(sheet, k, 1)) == number(sheet, k, 6) {
-            found = found % 8192 + 1;
-        }
-        k += 1;
-    }
-    found
+fn chosen(table: &Table, sheet: Sheet) -> usize {
+    (0..sheet.lines)
+        .filter(|k| get(table, CHOICE, number(sheet.page, *k, 1)) == number(sheet.page, *k, 6))
+        .count()
 }
 
 // The number of a line's field, of three digits at most. A space counts as a leading 0.
@@ -263,5 +210,5 @@ fn number(sheet: &Page, k: usize, column: usize) -> usize {
 }
 
 fn digit(b: u8) -> usize {
-    b as usize % 16
+    usize::from(b) % 16
 }

@@ -2,14 +2,14 @@
 // buffer has a byte less than the chart, as many bytes or more; marks may be blank where the index is asked for, and the text damaged.
 use crate::forms::{charts_of, index_of, is_small};
 use generating::write_small_chart;
-use indexing::{Indexed, index_small_chart};
+use indexing::index_small_chart;
 use reference::answers::is_refusal;
-use reference::generate::{below, blank_marks, build};
-use reference::sheet::{Chart, RIGHT, cell, positions};
+use reference::generate::{Blanks, below, blank_marks};
+use reference::sheet::{Chart, positions};
 use reference::tally::{Tally, add, expect};
-use reference::text::{lines_of, part, same_pages, write_chart, write_damaged};
+use reference::text::{lines_of, part, write_chart, write_damaged};
+use refusal::Refusal;
 use std::io;
-use writing::Written;
 
 // What is counted, in the order in which it is written: charts written, and their bytes; refused with 21, and with 10; charts that have an
 // index, and the sum of these; refused for the chart, and with 21.
@@ -31,28 +31,24 @@ const MISDRAWN: usize = 6;
 
 const OTHER: usize = 7;
 
-// A chart of a kind: written twice; its index, and the same with marks blank and half of the texts damaged.
+// A chart: written twice; its index, and the same with marks blank and half of the texts damaged.
 pub fn compare_small(
     rt: &impl Print,
-    kind: usize,
-    number: usize,
+    chart: &mut Chart,
     seed: &mut usize,
     tally: &mut Tally,
 ) -> io::Result<()> {
-    let mut chart = [0usize; 32768];
-    build(&mut chart, kind, number, seed);
-    // Without a move it is no chart.
-    if cell(&chart, RIGHT, 0) == 0 {
-        return Ok(());
-    }
-    compare_written(rt, &chart, below(seed, 2), tally)?;
-    compare_written(rt, &chart, below(seed, 26), tally)?;
-    compare_index(rt, &chart, 3, 0, tally)?;
-    let mut blanks = [below(seed, 1000000), 0];
-    blank_marks(&mut chart, 50, &mut blanks);
+    compare_written(rt, chart, below(seed, 2), tally)?;
+    compare_written(rt, chart, below(seed, 26), tally)?;
+    compare_index(rt, chart, 3, 0, tally)?;
+    let mut blanks = Blanks {
+        seed: below(seed, 1000000),
+        count: 0,
+    };
+    blank_marks(chart, 50, &mut blanks);
     let damage = below(seed, 6);
-    let at = below(seed, lines_of(&chart));
-    compare_index(rt, &chart, damage, at, tally)
+    let at = below(seed, lines_of(chart));
+    compare_index(rt, chart, damage, at, tally)
 }
 
 // The chart of this chart's index, of one past the last where it has none, into a buffer that has a byte less than the chart and so many more.
@@ -71,12 +67,8 @@ fn compare_written(
     let size = write_chart(&mut page, chart) % 65536;
     let room = (size + past % 32 + 65535) % 65536;
     let number = written_due(small, size, room);
-    let answer = write_into(n, index, &mut lent, room);
-    let same = if number == 0 {
-        same_pages(&page, &lent, 65536)
-    } else {
-        same_pages(&blank, &lent, 65536)
-    };
+    let answer = write_small_chart(n, index, &mut lent[..room]);
+    let same = lent == if number == 0 { page } else { blank };
     count_written(number, size, tally);
     let text = part(&page, size);
     expect(
@@ -96,13 +88,6 @@ fn written_due(small: bool, size: usize, room: usize) -> usize {
     if room < size { 10 } else { 0 }
 }
 
-fn write_into(n: usize, index: usize, lent: &mut [u8], room: usize) -> Written {
-    if lent.len() < room {
-        return Written::Length(99999);
-    }
-    write_small_chart(n, index, &mut lent[0..room])
-}
-
 fn count_written(number: usize, size: usize, tally: &mut Tally) {
     if number == 0 {
         add(tally, WRITTEN, 1);
@@ -112,10 +97,10 @@ fn count_written(number: usize, size: usize, tally: &mut Tally) {
     add(tally, if number == 21 { NO_INDEX } else { SHORT }, 1);
 }
 
-fn is_written(answer: Written, size: usize, number: usize) -> bool {
+fn is_written(answer: Result<usize, Refusal>, size: usize, number: usize) -> bool {
     match answer {
-        Written::Length(k) => (number == 0) & (k == size),
-        Written::Refused(refusal) => is_refusal(refusal, number, 0),
+        Ok(k) => (number == 0) & (k == size),
+        Err(refusal) => is_refusal(refusal, number, 0),
     }
 }
 
@@ -159,9 +144,9 @@ fn count_index(number: usize, index: usize, tally: &mut Tally) {
     add(tally, if number == 21 { OTHER } else { MISDRAWN }, 1);
 }
 
-fn is_index(answer: Indexed, index: usize, number: usize, line: usize) -> bool {
+fn is_index(answer: Result<usize, Refusal>, index: usize, number: usize, line: usize) -> bool {
     match answer {
-        Indexed::Index(x) => (number == 0) & (x == index),
-        Indexed::Refused(refusal) => is_refusal(refusal, number, line),
+        Ok(x) => (number == 0) & (x == index),
+        Err(refusal) => is_refusal(refusal, number, line),
     }
 }

@@ -2,11 +2,12 @@
 #![tactic(auto)]
 
 ghost use Rattle.std.specs.Prelude.{◌≡◌};
+ghost use Rattle.refusal.specs.declared.Refusal.TheVariants.{Chart as OfChart};
 ghost use Rattle.refusal.specs.Numbers.{misdrawn_line, misdrawn_number, no_numbers, numbers_of, refusal_condition, refusal_line, refusal_number, refusal_position};
 
 // Refusals 1 to 9 and 17 in the order of their tests, which a chart alone can give, each with its line where that is not always line 0. 17 is
 // tested beside 7 (document 02, order 4).
-#[derive(Clone, Copy)]
+#[derive(Clone, Copy, Debug, PartialEq, Eq)]
 pub enum Misdrawn {
     Length,
     Form(usize),
@@ -23,7 +24,7 @@ pub enum Misdrawn {
 // The table in the order of its tests: 20, a chart's refusal, 21, then 10 to 16, 18 and 19. 11 has the plate's line, 14 the fault's position
 // and condition. 18 is tested between 14 and 15 (document 02, order 5), 19 after 13, by the way to ruin only (order 6), 20 before the
 // chart, by a house of lanes only (order 7), 21 after 9 and before 10, by the jobs of small charts only (order 9).
-#[derive(Clone, Copy)]
+#[derive(Clone, Copy, Debug, PartialEq, Eq)]
 pub enum Refusal {
     Lanes,
     Chart(Misdrawn),
@@ -41,7 +42,7 @@ pub enum Refusal {
 
 // A refusal in the table's numbers, 0 where it has none; all are 0 where nothing is refused.
 #[repr(C)]
-#[derive(Clone, Copy)]
+#[derive(Clone, Copy, Debug, PartialEq, Eq)]
 pub struct Numbers {
     pub number: u32,
     pub line: usize,
@@ -73,32 +74,42 @@ impl Misdrawn {
         ensures { result ≡ misdrawn_line self }
     {
         match self {
-            Misdrawn::Length => 0,
             Misdrawn::Form(line) => line,
-            Misdrawn::Limits => 0,
-            Misdrawn::Count => 0,
             Misdrawn::Sequence(line) => line,
             Misdrawn::Endpoint(line) => line,
             Misdrawn::Disturbed(line) => line,
             Misdrawn::Resting(line) => line,
             Misdrawn::Order(line) => line,
             Misdrawn::NoMeant(line) => line,
+            _ => 0,
+        }
+    }
+}
+
+// A chart's refusal is a refusal of each job that reads a chart.
+impl From<Misdrawn> for Refusal {
+    ghost from_gives = { λ m r. r ≡ OfChart m };
+
+    fn from(misdrawn: Misdrawn) -> Refusal {
+        Refusal::Chart(misdrawn)
+    }
+}
+
+impl From<Refusal> for Numbers {
+    ghost from_gives = { λ r n. n ≡ numbers_of r };
+
+    fn from(refusal: Refusal) -> Numbers {
+        Numbers {
+            number: refusal.number(),
+            line: refusal.line(),
+            position: refusal.position(),
+            condition: refusal.condition(),
         }
     }
 }
 
 impl Refusal {
-    pub fn numbers(self) -> Numbers
-        ensures { result ≡ numbers_of self }
-    {
-        Numbers {
-            number: self.number(),
-            line: self.line(),
-            position: self.position(),
-            condition: self.condition(),
-        }
-    }
-
+    // The number in the table.
     fn number(self) -> u32
         ensures { result ≡ refusal_number self }
     {
@@ -122,18 +133,9 @@ impl Refusal {
         ensures { result ≡ refusal_line self }
     {
         match self {
-            Refusal::Lanes => 0,
             Refusal::Chart(m) => m.line(),
-            Refusal::NotSmall => 0,
-            Refusal::Short => 0,
             Refusal::Plate(line) => line,
-            Refusal::Choice => 0,
-            Refusal::Position => 0,
-            Refusal::Ever => 0,
-            Refusal::Fault(_, _) => 0,
-            Refusal::Held => 0,
-            Refusal::Move => 0,
-            Refusal::Seen => 0,
+            _ => 0,
         }
     }
 
@@ -141,18 +143,8 @@ impl Refusal {
         ensures { result ≡ refusal_position self }
     {
         match self {
-            Refusal::Lanes => 0,
-            Refusal::Chart(_) => 0,
-            Refusal::NotSmall => 0,
-            Refusal::Short => 0,
-            Refusal::Plate(_) => 0,
-            Refusal::Choice => 0,
-            Refusal::Position => 0,
-            Refusal::Ever => 0,
             Refusal::Fault(position, _) => position,
-            Refusal::Held => 0,
-            Refusal::Move => 0,
-            Refusal::Seen => 0,
+            _ => 0,
         }
     }
 
@@ -160,18 +152,8 @@ impl Refusal {
         ensures { result ≡ refusal_condition self }
     {
         match self {
-            Refusal::Lanes => 0,
-            Refusal::Chart(_) => 0,
-            Refusal::NotSmall => 0,
-            Refusal::Short => 0,
-            Refusal::Plate(_) => 0,
-            Refusal::Choice => 0,
-            Refusal::Position => 0,
-            Refusal::Ever => 0,
             Refusal::Fault(_, condition) => condition,
-            Refusal::Held => 0,
-            Refusal::Move => 0,
-            Refusal::Seen => 0,
+            _ => 0,
         }
     }
 }

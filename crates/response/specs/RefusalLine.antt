@@ -1,6 +1,6 @@
 -- The line of a chart's refusal is one of the chart's lines, of which there are 4,609 at most: so the five places of the program's
 -- field hold it whole. A refusal that gives a line above 0 comes after 3 in the order, so the counts are within their limits.
-use Rattle.std.specs.Prelude.{ℕ, ◌+◌, ◌≤◌, ◌<◌, ◌≡◌, refl, Bool, true, false, List, [], ◌∷◌, ltb}
+use Rattle.std.specs.Prelude.{ℕ, ◌+◌, ◌≤◌, ◌<◌, ◌≡◌, refl, Bool, true, false, List, [], ◌∷◌, ltb, Err}
 use native.Mathlib.Omega.{arith}
 use Rattle.std.proofs.Common.{mod-eq_of_lt, inr, ltb-true, ltb-false}
 use Rattle.std.proofs.Math.Logic.{inl}
@@ -14,7 +14,6 @@ use Rattle.chart.specs.Text.{positions_of, moves_of}
 use Rattle.chart.specs.Examined.{examined}
 use Rattle.chart.specs.Exact.{refused-exactly}
 use Rattle.chart.specs.Refusals.{BadDisturbance, BadEndpoint, BadForm, First, MeantAtRest, OutOfOrder, OutOfSequence, OutsideLimits, WithoutMeant}
-use Rattle.chart.specs.declared.Examination.TheVariants.{Refused}
 use Rattle.response.specs.Response.{refusal_text}
 
 module _ (text : List ℕ) where
@@ -47,6 +46,6 @@ module _ (text : List ℕ) where
   line-within (NoMeant line) f = one-of-the-lines line (omega (arith, f.applies.0.1)) (λ p. f.none_before Limits (inl (omega arith)))
 
   -- the program writes the refusal's own line
-  pub refusal-line-whole : (r : Misdrawn) → examined text ≡ Refused r →
+  pub refusal-line-whole : (r : Misdrawn) → examined text ≡ Err r →
       refusal_text (OfChart r) ≡ line_text 82 (Number (numbers_of (OfChart r)).number ∷ Number (numbers_of (OfChart r)).line ∷ [])
   refusal-line-whole r e = rw (mod-eq_of_lt {n = misdrawn_line r} {m = 100000} (omega (arith, line-within r ((refused-exactly text r).0 e))))

@@ -1,6 +1,6 @@
 -- What the collection's program writes (document 01, "The plate"): "reads a chart from standard input and writes its plate, or on
 -- refusal the single line `R`, number, line, in the chart's columns".
-use Rattle.std.specs.Prelude.{ℕ, ◌%◌, ◌≤◌, ◌≡◌, List, [], ◌∷◌, ◌++◌, length, drop}
+use Rattle.std.specs.Prelude.{ℕ, ◌%◌, ◌≤◌, ◌≡◌, List, [], ◌∷◌, ◌++◌, length, drop, Result, Ok, Err}
 use Rattle.std.proofs.Common.{arith, ap, ◌∙◌, length-append}
 use Rattle.line.specs.Text.{line_text}
 use Rattle.line.specs.declared.Entry.TheVariants.{Number}
@@ -10,17 +10,17 @@ use Rattle.chart.specs.Examined.{examined}
 use Rattle.refusal.specs.Numbers.{numbers_of}
 use Rattle.refusal.specs.declared.Refusal.{Refusal}
 use Rattle.refusal.specs.declared.Refusal.TheVariants.{Chart as OfChart}
-use Rattle.chart.specs.declared.Examination.{Examination}
-use Rattle.chart.specs.declared.Examination.TheVariants.{Accepted, Refused}
+use Rattle.rows.specs.declared.Chart.{Chart}
+use Rattle.refusal.specs.declared.Misdrawn.{Misdrawn}
 use Rattle.writing.specs.Writing.{plate_of}
 
 -- "the single line `R`, number, line"; the line is below 100,000 (specs/RefusalLine.antt: a chart has 4,609 lines at most)
 abbrev pub refusal_text : Refusal → List ℕ
 refusal_text x = line_text 82 (Number (numbers_of x).number ∷ Number ((numbers_of x).line % 100000) ∷ [])
 
-unfoldable pub response_by : Examination → Arena → List ℕ
-response_by (Refused r) a = refusal_text (OfChart r)
-response_by (Accepted chart) a = plate_of a
+unfoldable pub response_by : Result Chart Misdrawn → Arena → List ℕ
+response_by (Err r) a = refusal_text (OfChart r)
+response_by (Ok chart) a = plate_of a
 
 unfoldable pub response : List ℕ → List ℕ
 response text = response_by (examined text) (arena_of text)

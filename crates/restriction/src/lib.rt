@@ -46,10 +46,8 @@ pub fn flag_chosen(
     ensures { Noted n (number_at froms.now) (is_chosen costs.now froms.now tos.now choices.now) (λ v. bit) m flags.new }
 {
     clear_flags(n, flags);
-    let mut i: usize = 0;
-    while i < m {
+    for i in 0..m {
         flag_chosen_by(i, costs, froms, tos, choices, flags);
-        i += 1;
     }
 }
 
@@ -70,12 +68,10 @@ pub fn all_legal(n: usize, owners: &[u8], choices: &[u16], flags: &[u8]) -> bool
     requires { (n ≤ length owners.now) × (n ≤ length choices.now) × (n ≤ length flags.now) }
     ensures { result ≡ not (some_below (λ v. not (is_legal owners.now choices.now flags.now v)) n) }
 {
-    let mut v: usize = 0;
-    while v < n {
+    for v in 0..n {
         if !is_legal(v, owners, choices, flags) {
             return false;
         }
-        v += 1;
     }
     true
 }
@@ -139,12 +135,10 @@ pub fn restrict(
     ensures { Copied owners.now costs.now froms.now tos.now choices.now m result costskept.new fromskept.new toskept.new }
 {
     let mut count: usize = 0;
-    let mut i: usize = 0;
-    while i < m {
+    for i in 0..m {
         count = copy_move(
             i, count, owners, costs, froms, tos, choices, costskept, fromskept, toskept,
         );
-        i += 1;
     }
     count
 }

@@ -7,24 +7,14 @@ ghost use Rattle.game.specs.Table.{of_kind};
 ghost use Rattle.rows.specs.Rows.{Filled, RowIs, AtMove, Within};
 ghost use Rattle.rows.specs.Numbers.{number_at};
 ghost use Rattle.rows.specs.Notes.{Noted, spot_if, found};
-ghost use Rattle.round.specs.Round.{Placing, PlacingAt, decides, disturbs, first_flag, meets, ready_flag};
+ghost use Rattle.round.specs.Round.{Placing, PlacingAt, decides, disturbs, meets, ready_flag};
 
 use rows::{Chart, NONE};
 
-// 1 if a round takes a position with this flag and this value, else 0.
-fn takes(flag: u8, value: u16) -> usize
-    ensures { result ≡ bit (eqb flag 1 && eqb value 65535) }
+fn pick(take: bool, new: u16, old: u16) -> u16
+    ensures { result ≡ cond take new old }
 {
-    if flag != 1 {
-        return 0;
-    }
-    if value == NONE { 1 } else { 0 }
-}
-
-fn pick(take: usize, new: u16, old: u16) -> u16
-    ensures { result ≡ cond (eqb take 1) new old }
-{
-    if take == 1 { new } else { old }
+    if take { new } else { old }
 }
 
 // Places v in round (k, s) if it is flagged and not placed yet, and counts it. It stores either way, so that a round jumps on no test.
@@ -32,10 +22,10 @@ fn place_one(v: usize, flags: &[u8], k: u16, s: u16, values: &mut [u16], steps: 
     requires { (v < length flags.now) × (v < length values.old) × (v < length steps.old) }
     ensures { PlacingAt v flags.now k s values.old steps.old values.new steps.new result }
 {
-    let take = takes(flags[v], values[v]);
+    let take = (flags[v] == 1) & (values[v] == NONE);
     values[v] = pick(take, k, values[v]);
     steps[v] = pick(take, s, steps[v]);
-    take
+    usize::from(take)
 }
 
 // Round (k, s): places the flagged positions that are not placed yet, and counts them. The bounds keep the n positions within the rows.
@@ -44,37 +34,20 @@ pub fn place(n: usize, flags: &[u8], k: u16, s: u16, values: &mut [u16], steps: 
     ensures { Placing n flags.now k s values.old steps.old values.new steps.new result }
 {
     let mut count: usize = 0;
-    let mut v: usize = 0;
-    while v < n {
+    for v in 0..n {
         count += place_one(v, flags, k, s, values, steps);
-        v += 1;
     }
     count
 }
 
-// The flag of a position before any of its moves is seen: 1 at O, 0 at L and at R.
-fn first_flag(owner: u8) -> u8
-    ensures { result ≡ first_flag owner }
-{
-    if owner == 0 { 1 } else { 0 }
-}
-
+// The flag of each position before any of its moves is seen: 1 at O, 0 at L and at R.
 fn flag_owners(n: usize, owners: &[u8], flags: &mut [u8])
     requires { (n ≤ length owners.now) × (n ≤ length flags.old) }
     ensures { Filled flags.old flags.new n (λ v. ready_flag owners.now v false) }
 {
-    let mut v: usize = 0;
-    while v < n {
-        flags[v] = first_flag(owners[v]);
-        v += 1;
+    for v in 0..n {
+        flags[v] = u8::from(owners[v] == 0);
     }
-}
-
-// 1 if the two are the same, else 0.
-fn same(x: u16, k: u16) -> u8
-    ensures { result ≡ bit (eqb x k) }
-{
-    if x == k { 1 } else { 0 }
 }
 
 // What each position shows to the moves into it: 1 if its value is k, else 0.
@@ -82,10 +55,8 @@ fn show(n: usize, k: u16, values: &[u16], shows: &mut [u8])
     requires { (n ≤ length values.now) × (n ≤ length shows.old) }
     ensures { Filled shows.old shows.new n (λ v. bit (eqb (get_or values.now v 0) k)) }
 {
-    let mut v: usize = 0;
-    while v < n {
-        shows[v] = same(values[v], k);
-        v += 1;
+    for v in 0..n {
+        shows[v] = u8::from(values[v] == k);
     }
 }
 
@@ -137,18 +108,9 @@ fn note(
     requires { Within n m costs.now froms.now tos.now × (n ≤ 512) × (n ≤ length seeks.now) × (n ≤ length shows.now) × (512 < length found.old) × RowIs found.old n (λ v. 0) }
     ensures { Noted n (number_at froms.now) (meets meant seeks.now shows.now costs.now froms.now tos.now) (λ v. bit) m found.new }
 {
-    let mut i: usize = 0;
-    while i < m {
+    for i in 0..m {
         note_by(i, meant, seeks, shows, costs, froms, tos, found);
-        i += 1;
     }
-}
-
-// The flag of a position: 1 if only one of the first flag and the note is.
-fn turned(first: u8, found: u8) -> u8
-    ensures { result ≡ bit (not (eqb first found)) }
-{
-    if first == found { 0 } else { 1 }
 }
 
 // The flags: the first ones, turned over where a note was left.
@@ -156,10 +118,8 @@ fn turn(n: usize, firsts: &[u8], found: &[u8], flags: &mut [u8])
     requires { (n ≤ length firsts.now) × (n ≤ length found.now) × (n ≤ length flags.old) }
     ensures { Filled flags.old flags.new n (λ v. bit (not (eqb (get_or firsts.now v 0) (get_or found.now v 0)))) }
 {
-    let mut v: usize = 0;
-    while v < n {
-        flags[v] = turned(firsts[v], found[v]);
-        v += 1;
+    for v in 0..n {
+        flags[v] = u8::from(firsts[v] != found[v]);
     }
 }
 

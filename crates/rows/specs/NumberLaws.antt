@@ -4,8 +4,15 @@ use Rattle.std.specs.Prelude.{ℕ, ◌≤◌, ◌<◌, ◌≡◌, refl, Bool, tr
 use Rattle.std.proofs.Math.Decide.{ℕ_discrete, dec_le}
 use Rattle.std.proofs.Common.{arith, sym, ◌∙◌, eq-eqb, ne_eqb, eqb-true, lt-ltb, le-ltb, le-leb}
 use Rattle.std.proofs.lemmas.Bool.{lt-leb}
+use Rattle.std.specs.Int.{from_bool}
+use Rattle.search.specs.Below.{bit}
 use Rattle.game.specs.Value.{Value, fin, ever, value_le, value_lt, value_eq}
 use Rattle.rows.specs.Numbers.{number_of, value_of}
+
+-- a test's answer as a number, by the library's conversion
+pub from-bool : (b : Bool) → from_bool b ≡ bit b
+from-bool true = refl
+from-bool false = refl
 
 -- a 16-bit number and its value
 pub number-of-value : (x : ℕ) → number_of (value_of x) ≡ x

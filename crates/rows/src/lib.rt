@@ -49,11 +49,7 @@ pub fn fill(n: usize, x: u16, row: &mut [u16])
     requires { n ≤ length row.old }
     ensures { Filled row.old row.new n (λ v. x) }
 {
-    let mut v: usize = 0;
-    while v < n {
-        row[v] = x;
-        v += 1;
-    }
+    row[..n].fill(x);
 }
 
 // The first n flags become 0. The bound keeps them within the row.
@@ -61,9 +57,5 @@ pub fn clear_flags(n: usize, flags: &mut [u8])
     requires { n ≤ length flags.old }
     ensures { Filled flags.old flags.new n (λ v. 0) }
 {
-    let mut v: usize = 0;
-    while v < n {
-        flags[v] = 0;
-        v += 1;
-    }
+    flags[..n].fill(0);
 }

@@ -3,7 +3,7 @@ use Prim.Native.Nat.{ℕ, suc, ◌+◌, ◌*◌, ◌≤◌, ◌<◌}
 use native.Mathlib.Omega.{arith}
 use Rattle.std.proofs.Common.{add-one, ◌∙◌}
 use Rattle.std.proofs.Math.Path.{◌≡◌, refl, sym, ap, subst}
-use Rattle.std.specs.Prelude.{Bool, true, false, not, length, leb}
+use Rattle.std.specs.Prelude.{Bool, true, false, not, length, leb, Result, Ok, Err}
 use mathlib.Core.List.{List, ◌++◌}
 use Rattle.std.proofs.Math.ListN.{get_or, drop}
 use borrow.Author.Tests.{lt-ltb, le-ltb}
@@ -27,17 +27,15 @@ use Rattle.way_rows.specs.Steps.{straight_to, Pointed, LeadsOn, Followed}
 use Rattle.way_rows.specs.StepsLaws.{stops-inside}
 use Rattle.chart.specs.Meaning.{arena_of}
 use Rattle.chart.specs.Examined.{examined}
-use Rattle.chart.specs.declared.Examination.TheVariants.{Accepted, Refused}
 use Rattle.refusal.specs.declared.Misdrawn.{Misdrawn}
 use Rattle.refusal.specs.declared.Refusal.TheVariants.{Chart as OfChart, Short, Choice, Position, Ever}
 use Rattle.restriction.specs.Restriction.{is_chosen, is_legal}
 use Rattle.weighing.specs.Weighing.{legal_row, WeighedRows, RestrictedSolved}
 use Rattle.weighing.specs.WeighingLaws.{worths-fit, legal-row-is, flags-say-legal}
-use Rattle.listing.specs.declared.Listed.{Listed}
-use Rattle.listing.specs.declared.Listed.TheVariants.{Lines, Refused as Turned}
 use Rattle.sheet_lines.specs.Lines.{pair_lines}
 use Rattle.ruin.specs.Ruin.{way_count, way_by, ruined_rows, ruined_by, ruined, WayWritten, RuinedIs, WayLines, WayFollowed, WayFound, WayListed, RowsRuined}
 use Rattle.ruin.specs.TightRows.{straight-joins, left-row, row-leads, row-leads-on}
+use Rattle.refusal.specs.declared.Refusal.{Refusal}
 use Rattle.ruin.specs.WayLines.{followed-lines}
 
 -- the count of lines is that of the moves that are left, and one
@@ -133,7 +131,7 @@ module _ {n m count : ℕ} {owners marks costs froms tos choices worths₀ costs
 -- Listing it
 
 module _ {n m v : ℕ} {owners marks costs froms tos choices positions led : List ℕ} where
-  pub way-ever : {out : List ℕ} → WayFound n m owners marks costs froms tos choices v positions led 0 → WayListed n m owners marks costs froms tos choices v out out (Turned Ever)
+  pub way-ever : {out : List ℕ} → WayFound n m owners marks costs froms tos choices v positions led 0 → WayListed n m owners marks costs froms tos choices v out out (Err Ever)
   unfolding way_by
   way-ever found = record {
     answer = λ a d legal. rw (found.none a d legal refl);
@@ -154,7 +152,7 @@ module _ {n m v : ℕ} {owners marks costs froms tos choices positions led : Lis
     counted-as : (a : Arena) (d : RowsOf a n m owners marks costs froms tos) (legal : Legal a (row_value choices)) → way_count (restricted a (row_value choices)) v ≡ lines
     counted-as a d legal = let way = found.some a d legal some in way-counted (restricted a (row_value choices)) v way.left way.is-left ∙ sym way.counted
 
-    pub way-short : {out : List ℕ} → leb (lines * 12) (length out) ≡ false → WayListed n m owners marks costs froms tos choices v out out (Turned Short)
+    pub way-short : {out : List ℕ} → leb (lines * 12) (length out) ≡ false → WayListed n m owners marks costs froms tos choices v out out (Err Short)
     unfolding way_by
     way-short short = record {
       answer = λ a d legal. rw ((found.some a d legal some).is-worth, counted-as a d legal, short);
@@ -163,7 +161,7 @@ module _ {n m v : ℕ} {owners marks costs froms tos choices positions led : Lis
     }
 
     pub way-listed : {out out' : List ℕ} → v < n → leb (lines * 12) (length out) ≡ true → out' ≡ pair_lines 87 positions led lines ++ drop (lines * 12) out
-        → WayListed n m owners marks costs froms tos choices v out out' (Lines lines)
+        → WayListed n m owners marks costs froms tos choices v out out' (Ok lines)
     unfolding way_by
     way-listed {out} {out'} l room bytes = record {
       answer = λ a d legal. rw ((found.some a d legal some).is-worth, counted-as a d legal, room);
@@ -191,7 +189,7 @@ legal-as {n} {m} {owners} {marks} {costs} {froms} {tos} choices flags noted e a 
     rw d.positions (sym (legal-row-is a n m owners marks costs froms tos choices d flags noted) ∙ e)
 
 module _ {n m : ℕ} {owners marks costs froms tos choices flags : List ℕ} (noted : Noted n (number_at froms) (is_chosen costs froms tos choices) (λ u. bit) m flags) where
-  pub rows-choice : {v : ℕ} {out : List ℕ} → not (some_below (λ u. not (is_legal owners choices flags u)) n) ≡ false → RowsRuined n m owners marks costs froms tos choices v out out (Turned Choice)
+  pub rows-choice : {v : ℕ} {out : List ℕ} → not (some_below (λ u. not (is_legal owners choices flags u)) n) ≡ false → RowsRuined n m owners marks costs froms tos choices v out out (Err Choice)
   unfolding ruined_rows
   rows-choice e = record {
     answer = λ a d. rw (legal-as choices flags noted e a d);
@@ -200,7 +198,7 @@ module _ {n m : ℕ} {owners marks costs froms tos choices flags : List ℕ} (no
   }
 
   module _ (e : not (some_below (λ u. not (is_legal owners choices flags u)) n) ≡ true) where
-    pub rows-position : {v : ℕ} {out : List ℕ} → n ≤ v → RowsRuined n m owners marks costs froms tos choices v out out (Turned Position)
+    pub rows-position : {v : ℕ} {out : List ℕ} → n ≤ v → RowsRuined n m owners marks costs froms tos choices v out out (Err Position)
     unfolding ruined_rows
     rows-position {v} l = record {
       answer = λ a d. rw (legal-as choices flags noted e a d, le-ltb v (size a) (rw d.positions l));
@@ -208,7 +206,7 @@ module _ {n m : ℕ} {owners marks costs froms tos choices flags : List ℕ} (no
       refused = λ x z. refl;
     }
 
-    pub rows-way : {v : ℕ} {out out' : List ℕ} {r : Listed} → v < n → WayListed n m owners marks costs froms tos choices v out out' r → RowsRuined n m owners marks costs froms tos choices v out out' r
+    pub rows-way : {v : ℕ} {out out' : List ℕ} {r : Result ℕ Refusal} → v < n → WayListed n m owners marks costs froms tos choices v out out' r → RowsRuined n m owners marks costs froms tos choices v out out' r
     unfolding ruined_rows
     rows-way {v} l listed = record {
       answer = λ a d. rw (legal-as choices flags noted e a d, lt-ltb v (size a) (rw d.positions l)) (listed.answer a d (flags-say-legal a n m owners marks costs froms tos choices d flags noted e));
@@ -219,7 +217,7 @@ module _ {n m : ℕ} {owners marks costs froms tos choices flags : List ℕ} (no
 -- The answers of the job
 
 module _ {text choices out : List ℕ} {v : ℕ} where
-  pub ruined-refused : {x : Misdrawn} → examined text ≡ Refused x → RuinedIs text choices v out out (Turned (OfChart x))
+  pub ruined-refused : {x : Misdrawn} → examined text ≡ Err x → RuinedIs text choices v out out (Err (OfChart x))
   unfolding ruined ruined_by
   ruined-refused e = record {
     answer = rw e;
@@ -227,7 +225,7 @@ module _ {text choices out : List ℕ} {v : ℕ} where
     refused = λ x z. refl;
   }
 
-  pub ruined-short : {chart : Chart} → examined text ≡ Accepted chart → leb chart.positions (length choices) ≡ false → RuinedIs text choices v out out (Turned Short)
+  pub ruined-short : {chart : Chart} → examined text ≡ Ok chart → leb chart.positions (length choices) ≡ false → RuinedIs text choices v out out (Err Short)
   unfolding ruined ruined_by
   ruined-short e short = record {
     answer = rw (e, short);
@@ -235,7 +233,7 @@ module _ {text choices out : List ℕ} {v : ℕ} where
     refused = λ x z. refl;
   }
 
-  pub ruined-rows : {chart : Chart} {n m : ℕ} {owners marks costs froms tos out' : List ℕ} {r : Listed} → examined text ≡ Accepted chart → leb chart.positions (length choices) ≡ true
+  pub ruined-rows : {chart : Chart} {n m : ℕ} {owners marks costs froms tos out' : List ℕ} {r : Result ℕ Refusal} → examined text ≡ Ok chart → leb chart.positions (length choices) ≡ true
       → RowsOf (arena_of text) n m owners marks costs froms tos → RowsRuined n m owners marks costs froms tos choices v out out' r → RuinedIs text choices v out out' r
   unfolding ruined ruined_by
   ruined-rows e room d rows = record { answer = rw (e, room) (rows.answer (arena_of text) d); taken = rows.taken (arena_of text) d; refused = rows.refused }

@@ -10,10 +10,8 @@ ghost use Rattle.rows.specs.Rows.{ChartRows, RowsOf};
 ghost use Rattle.weighing.specs.Weighing.{WeighedRows};
 ghost use Rattle.ruin.specs.Ruin.{RowsRuined, RuinedIs, WayFollowed, WayFound, WayListed};
 
-use chart::Examination;
 use decode::load;
 use distances::count_moves;
-use listing::Listed;
 use refusal::Refusal;
 use restriction::{all_legal, flag_chosen};
 use rows::{Chart, NONE};
@@ -21,10 +19,15 @@ use sheet_lines::write_lines;
 use way_rows::{follow, point_on, straighten};
 use weighing::solve_restricted;
 
-// Writes the sheet of the shortest way to ruin from a position, for the controller that makes these choices, into a lent buffer. What lies
-// past its last line stays, and on a refusal everything does: the chart's, 10 where the row of choices is too short, 12, 13, 19 where the
+// Writes the sheet of the shortest way to ruin from a position, for the controller that makes these choices, into a lent buffer, and answers
+// the count of its lines. What lies past its last line stays, and on a refusal everything does: the chart's, 10 where the row of choices is too short, 12, 13, 19 where the
 // worth is "ever", and last 10 for a buffer that the lines do not fit.
-pub fn list_way_to_ruin(text: &[u8], choices: &[u16], position: usize, sheet: &mut [u8]) -> Listed
+pub fn list_way_to_ruin(
+    text: &[u8],
+    choices: &[u16],
+    position: usize,
+    sheet: &mut [u8],
+) -> Result<usize, Refusal>
     ensures { RuinedIs text.now choices.now position sheet.old sheet.new result }
 {
     let mut owners = [0u8; Chart::POSITIONS];
@@ -32,26 +35,22 @@ pub fn list_way_to_ruin(text: &[u8], choices: &[u16], position: usize, sheet: &m
     let mut costs = [0u8; Chart::MOVES];
     let mut froms = [0u16; Chart::MOVES];
     let mut tos = [0u16; Chart::MOVES];
-    match load(
+    let chart = load(
         text,
         &mut owners,
         &mut marks,
         &mut costs,
         &mut froms,
         &mut tos,
-    ) {
-        Examination::Refused(r) => Listed::Refused(Refusal::Chart(r)),
-        Examination::Accepted(chart) => {
-            let n = chart.positions;
-            let m = chart.moves;
-            if choices.len() < n {
-                return Listed::Refused(Refusal::Short);
-            }
-            list_rows(
-                n, m, &owners, &marks, &costs, &froms, &tos, choices, position, sheet,
-            )
-        }
+    )?;
+    let n = chart.positions;
+    let m = chart.moves;
+    if choices.len() < n {
+        return Err(Refusal::Short);
     }
+    list_rows(
+        n, m, &owners, &marks, &costs, &froms, &tos, choices, position, sheet,
+    )
 }
 
 // Tests the choices and the position over rows that hold a chart, and lists the way. There are n choices.
@@ -66,17 +65,17 @@ fn list_rows(
     choices: &[u16],
     position: usize,
     sheet: &mut [u8],
-) -> Listed
+) -> Result<usize, Refusal>
     requires { ChartRows n m owners.now marks.now costs.now froms.now tos.now × (n ≤ length choices.now) }
     ensures { RowsRuined n m owners.now marks.now costs.now froms.now tos.now choices.now position sheet.old sheet.new result }
 {
     let mut flags = [0u8; Chart::POSITIONS];
     flag_chosen(n, m, costs, froms, tos, choices, &mut flags);
     if !all_legal(n, owners, choices, &flags) {
-        return Listed::Refused(Refusal::Choice);
+        return Err(Refusal::Choice);
     }
     if n <= position {
-        return Listed::Refused(Refusal::Position);
+        return Err(Refusal::Position);
     }
     list_way(
         n, m, owners, marks, costs, froms, tos, choices, position, sheet,
@@ -95,7 +94,7 @@ fn list_way(
     choices: &[u16],
     position: usize,
     sheet: &mut [u8],
-) -> Listed
+) -> Result<usize, Refusal>
     requires { ((a : Arena) × (RowsOf a n m owners.now marks.now costs.now froms.now tos.now × Legal a (row_value choices.now))) × (n ≤ length choices.now) × (position < n) }
     ensures { WayListed n m owners.now marks.now costs.now froms.now tos.now choices.now position sheet.old sheet.new result }
 {
@@ -115,13 +114,13 @@ fn list_way(
         &mut led,
     );
     if lines == 0 {
-        return Listed::Refused(Refusal::Ever);
+        return Err(Refusal::Ever);
     }
     if sheet.len() < lines * Chart::LINE {
-        return Listed::Refused(Refusal::Short);
+        return Err(Refusal::Short);
     }
     write_lines(b'W', lines, &positions, &led, sheet);
-    Listed::Lines(lines)
+    Ok(lines)
 }
 
 // Weighs the choices, and finds the way if the worth at the position is a number. Answers the count of its positions, 0 if there is none.

@@ -1,6 +1,8 @@
 -- Each answer is given exactly when its condition holds. Forward, by cases on the chart's examination, the plate's form, the two
 -- tests of positions, the first fault, the held value and the kind; backward, the condition settles each of these in turn.
-use Rattle.std.specs.Prelude.{ℕ, ◌+◌, ◌<◌, ◌≡◌, ◌↔◌, Bool, List}
+use Rattle.std.specs.Prelude.{ℕ, ◌+◌, ◌<◌, ◌≡◌, ◌↔◌, Bool, List, ⊤, Result, Ok, Err}
+use Rattle.verdict.specs.declared.FoundFault.{FoundFault}
+use Rattle.verdict.specs.Verdict.{fault_of}
 use Rattle.std.proofs.Math.Path.{refl, ap}
 use Rattle.std.proofs.Common.{subst, ◌∙◌, arith}
 use Rattle.std.proofs.Math.Logic.{inl, inr}
@@ -15,28 +17,20 @@ use Rattle.chart.specs.Accepted.{accepted-few, accepted-size}
 use Rattle.rows.specs.declared.Chart.{Chart}
 use Rattle.refusal.specs.declared.Refusal.{Refusal}
 use Rattle.refusal.specs.declared.Refusal.TheVariants.{Lanes, Chart as OfChart, NotSmall, Short, Plate, Choice, Position, Ever, Fault, Held, Move, Seen}
-use Rattle.chart.specs.declared.Examination.{Examination}
-use Rattle.chart.specs.declared.Examination.TheVariants.{Accepted as Taken, Refused as Turned}
 use Rattle.plate.specs.Exact.{bad-line-exact, form-exact}
 use Rattle.plate.specs.Formed.{form_of}
 use Rattle.plate.specs.Read.{value_in_plate, choice_in_plate}
-use Rattle.plate.specs.declared.Form.{Form as PlateForm}
-use Rattle.plate.specs.declared.Form.TheVariants.{Good, Bad}
 use Rattle.checking.specs.Answers.{AcceptedIs, FaultIs}
 use Rattle.checking.specs.Checking.{plate_verdict}
 use Rattle.checking.specs.AnswersExact.{accepted-sound, faulty-at, verdict-means}
-use Rattle.verdict.specs.declared.Verdict.{Verdict}
-use Rattle.verdict.specs.declared.Verdict.TheVariants.{Sound, Fault as FaultAt}
 use Rattle.moves.specs.Moves.{move_kind}
 use Rattle.run.specs.Running.{no_run, reported, reported_by, reported_form, reported_inside, reported_move, reported_accepted, reported_verdict, standing, started, started_by, started_form, started_inside, started_verdict, unmoved}
 use Rattle.run.specs.Answers.{Holds, Moves, Readable, ReportIs, ReportRefused, Stands, StartIs, StartRefused}
 use Rattle.moves.specs.declared.Kind.{Kind}
 use Rattle.moves.specs.declared.Kind.TheVariants.{Meant, Disturbance, Neither}
 use Rattle.run.specs.declared.Run.{Run}
-use Rattle.run.specs.declared.Started.{Started}
-use Rattle.run.specs.declared.Started.TheVariants.{Begun, Refused}
-use Rattle.run.specs.declared.Answer.{Answer}
-use Rattle.run.specs.declared.Answer.TheVariants.{Taken as Went, Refused as Declined}
+use Rattle.run.specs.declared.Advice.{Advice}
+use Rattle.refusal.specs.declared.Misdrawn.{Misdrawn}
 use Rattle.run.specs.declared.Reported.{Reported}
 
 module _ {text plate : List ℕ} where
@@ -77,12 +71,12 @@ module _ (run : Run) (text plate : List ℕ) (to : ℕ) where
         go false h = ((stands, eqb-false here run.value h), refl)
 
   module _ (readable : Readable text plate) where
-    of-verdict : run.position < size (arena_of text) → to < size (arena_of text) → (r : Verdict) → plate_verdict (arena_of text) plate ≡ r
+    of-verdict : run.position < size (arena_of text) → to < size (arena_of text) → (r : Result ⊤ FoundFault) → plate_verdict (arena_of text) plate ≡ r
         → Is (reported_verdict run (arena_of text) plate to r)
     unfolding reported_verdict unmoved
-    of-verdict own inside Sound e =
-        of-accepted (record { accepted = verdict-means text plate readable.chart readable.taken readable.form Sound e; own = own; inside = inside })
-    of-verdict own inside (FaultAt v c) e = ((verdict-means text plate readable.chart readable.taken readable.form (FaultAt v c) e, own, inside), refl)
+    of-verdict own inside (Ok _) e =
+        of-accepted (record { accepted = verdict-means text plate readable.chart readable.taken readable.form (Ok tt) e; own = own; inside = inside })
+    of-verdict own inside (Err f) e = ((verdict-means text plate readable.chart readable.taken readable.form (Err f) e, own, inside), refl)
 
     of-form : Is (reported_inside run (arena_of text) plate to)
     unfolding reported_inside unmoved
@@ -94,15 +88,15 @@ module _ (run : Run) (text plate : List ℕ) (to : ℕ) where
         go true false h k = ((readable, inr (ltb-false _ _ k)), refl)
         go false q h k = ((readable, inl (ltb-false _ _ h)), refl)
 
-  of-chart : (chart : Chart) → examined text ≡ Taken chart → (f : PlateForm) → form_of chart.positions plate ≡ f → Is (reported_form run (arena_of text) plate to f)
+  of-chart : (chart : Chart) → examined text ≡ Ok chart → (f : Result ⊤ ℕ) → form_of chart.positions plate ≡ f → Is (reported_form run (arena_of text) plate to f)
   unfolding reported_form unmoved
-  of-chart chart e Good h = of-form (record { chart = chart; taken = e; form = (form-exact chart.positions plate).0 h })
-  of-chart chart e (Bad line) h = (record { chart = chart; taken = e; bad = (bad-line-exact chart.positions line plate).0 h }, refl)
+  of-chart chart e (Ok _) h = of-form (record { chart = chart; taken = e; form = (form-exact chart.positions plate).0 h })
+  of-chart chart e (Err line) h = (record { chart = chart; taken = e; bad = (bad-line-exact chart.positions line plate).0 h }, refl)
 
-  of-text : (x : Examination) → examined text ≡ x → Is (reported_by run text plate to x)
+  of-text : (x : Result Chart Misdrawn) → examined text ≡ x → Is (reported_by run text plate to x)
   unfolding reported_by unmoved
-  of-text (Turned r) e = (e, refl)
-  of-text (Taken chart) e = of-chart chart e (form_of chart.positions plate) refl
+  of-text (Err r) e = (e, refl)
+  of-text (Ok chart) e = of-chart chart e (form_of chart.positions plate) refl
 
   answered : Is (reported run text plate to)
   unfolding reported
@@ -113,7 +107,7 @@ module _ (run : Run) (text plate : List ℕ) (to : ℕ) where
   unfolding reported reported_by reported_form
   readable-report w = rw (w.taken, (form-exact w.chart.positions plate).1 w.form)
 
-  inside-report : Readable text plate → run.position < size (arena_of text) → to < size (arena_of text) → (r : Verdict) → plate_verdict (arena_of text) plate ≡ r
+  inside-report : Readable text plate → run.position < size (arena_of text) → to < size (arena_of text) → (r : Result ⊤ FoundFault) → plate_verdict (arena_of text) plate ≡ r
       → reported run text plate to ≡ reported_verdict run (arena_of text) plate to r
   unfolding reported_inside
   inside-report w own inside r e =
@@ -122,7 +116,7 @@ module _ (run : Run) (text plate : List ℕ) (to : ℕ) where
 
   accepted-report : Stands run text plate to → reported run text plate to ≡ reported_accepted run (arena_of text) plate to
   unfolding reported_verdict
-  accepted-report w = inside-report (accepted-readable w.accepted) w.own w.inside Sound (accepted-sound text plate w.accepted)
+  accepted-report w = inside-report (accepted-readable w.accepted) w.own w.inside (Ok tt) (accepted-sound text plate w.accepted)
 
   moved-report : (k : Kind) → Moves run text plate to k → reported run text plate to ≡ reported_move run plate to k
   unfolding reported_accepted
@@ -142,7 +136,7 @@ module _ (run : Run) (text plate : List ℕ) (to : ℕ) where
           ≡ unmoved run Position
       go true = rw (le-ltb to (size (arena_of text)) l)
       go false = refl
-  refusal-from (Fault v c) (w, own, inside) = inside-report (faulty-readable w) own inside (FaultAt v c) (faulty-at text plate v c w)
+  refusal-from (Fault v c) (w, own, inside) = inside-report (faulty-readable w) own inside (Err (fault_of v c)) (faulty-at text plate v c w)
   refusal-from Held (w, apart) = accepted-report w ∙ rw (ne_eqb here run.value apart)
   refusal-from Move w = moved-report Neither w
   refusal-from Seen (w, l) = moved-report Disturbance w ∙ rw (le-ltb run.seen 99999 l)
@@ -152,20 +146,20 @@ module _ (run : Run) (text plate : List ℕ) (to : ℕ) where
   refusal-from Choice is = absurd is
   refusal-from Ever is = absurd is
 
-  from : (after : Run) (r : Answer) → ReportIs run text plate to after r → reported run text plate to ≡ record { run = after; answer = r }
+  from : (after : Run) (r : Result Advice Refusal) → ReportIs run text plate to after r → reported run text plate to ≡ record { run = after; answer = r }
   unfolding reported_move standing unmoved
-  from after (Went advice) (inl (w, e), z) = moved-report Meant w ∙ rw (e, z)
-  from after (Went advice) (inr (w, l, e), z) = moved-report Disturbance w ∙ rw (lt-ltb run.seen 99999 l, e, z)
-  from after (Declined x) (h, e) = refusal-from x h ∙ rw e
+  from after (Ok advice) (inl (w, e), z) = moved-report Meant w ∙ rw (e, z)
+  from after (Ok advice) (inr (w, l, e), z) = moved-report Disturbance w ∙ rw (lt-ltb run.seen 99999 l, e, z)
+  from after (Err x) (h, e) = refusal-from x h ∙ rw e
 
-  pub report-exactly : (after : Run) (r : Answer) → (reported run text plate to ≡ record { run = after; answer = r }) ↔ ReportIs run text plate to after r
+  pub report-exactly : (after : Run) (r : Result Advice Refusal) → (reported run text plate to ≡ record { run = after; answer = r }) ↔ ReportIs run text plate to after r
   report-exactly after r = (
     λ e. subst Is e answered,
     from after r,
   )
 
   -- of the answer alone
-  pub report-refused-exactly : (x : Refusal) → ((reported run text plate to).answer ≡ Declined x) ↔ ReportRefused run text plate to x
+  pub report-refused-exactly : (x : Refusal) → ((reported run text plate to).answer ≡ Err x) ↔ ReportRefused run text plate to x
   unfolding unmoved
   report-refused-exactly x = (
     λ e. (subst (ReportIs run text plate to (reported run text plate to).run) e answered).0,
@@ -182,34 +176,34 @@ module _ (text plate : List ℕ) (position : ℕ) where
   abbrev n : ℕ
   n = size (arena_of text)
 
-  abbrev verdict : Verdict
+  abbrev verdict : Result ⊤ FoundFault
   verdict = plate_verdict (arena_of text) plate
 
   -- forward
   module _ (w : Readable text plate) where
-    begun-or-faulty : position < n → (r : Verdict) → verdict ≡ r → StartIs text plate position (started_verdict plate position r)
+    begun-or-faulty : position < n → (r : Result ⊤ FoundFault) → verdict ≡ r → StartIs text plate position (started_verdict plate position r)
     unfolding started_verdict
-    begun-or-faulty l Sound e = (verdict-means text plate w.chart w.taken w.form Sound e, l, refl, refl)
-    begun-or-faulty l (FaultAt v c) e = (verdict-means text plate w.chart w.taken w.form (FaultAt v c) e, l)
+    begun-or-faulty l (Ok _) e = (verdict-means text plate w.chart w.taken w.form (Ok tt) e, l, refl, refl)
+    begun-or-faulty l (Err f) e = (verdict-means text plate w.chart w.taken w.form (Err f) e, l)
 
     start-formed : StartIs text plate position (started_inside (arena_of text) plate position)
     unfolding started_inside
     start-formed = go (ltb position n) refl
       where
-        go : (b : Bool) → ltb position n ≡ b → StartIs text plate position (cond b (started_verdict plate position verdict) (Refused Position))
+        go : (b : Bool) → ltb position n ≡ b → StartIs text plate position (cond b (started_verdict plate position verdict) (Err Position))
         go true h = begun-or-faulty (ltb-true position n h) verdict refl
         go false h = (w, ltb-false position n h)
 
-  start-of-form : (chart : Chart) → examined text ≡ Taken chart → (f : PlateForm) → form_of chart.positions plate ≡ f
+  start-of-form : (chart : Chart) → examined text ≡ Ok chart → (f : Result ⊤ ℕ) → form_of chart.positions plate ≡ f
       → StartIs text plate position (started_form (arena_of text) plate position f)
   unfolding started_form
-  start-of-form chart e Good h = start-formed (record { chart = chart; taken = e; form = (form-exact chart.positions plate).0 h })
-  start-of-form chart e (Bad line) h = record { chart = chart; taken = e; bad = (bad-line-exact chart.positions line plate).0 h }
+  start-of-form chart e (Ok _) h = start-formed (record { chart = chart; taken = e; form = (form-exact chart.positions plate).0 h })
+  start-of-form chart e (Err line) h = record { chart = chart; taken = e; bad = (bad-line-exact chart.positions line plate).0 h }
 
-  start-of-text : (x : Examination) → examined text ≡ x → StartIs text plate position (started_by text plate position x)
+  start-of-text : (x : Result Chart Misdrawn) → examined text ≡ x → StartIs text plate position (started_by text plate position x)
   unfolding started_by
-  start-of-text (Turned r) e = e
-  start-of-text (Taken chart) e = start-of-form chart e (form_of chart.positions plate) refl
+  start-of-text (Err r) e = e
+  start-of-text (Ok chart) e = start-of-form chart e (form_of chart.positions plate) refl
 
   start-answered : StartIs text plate position (started text plate position)
   unfolding started
@@ -220,16 +214,16 @@ module _ (text plate : List ℕ) (position : ℕ) where
   unfolding started started_by started_form
   readable-start w = rw (w.taken, (form-exact w.chart.positions plate).1 w.form)
 
-  inside-start : Readable text plate → position < n → (r : Verdict) → verdict ≡ r → started text plate position ≡ started_verdict plate position r
+  inside-start : Readable text plate → position < n → (r : Result ⊤ FoundFault) → verdict ≡ r → started text plate position ≡ started_verdict plate position r
   unfolding started_inside
   inside-start w l r e = readable-start w ∙ rw (lt-ltb position n l, e)
 
-  start-refusal : (x : Refusal) → StartRefused text plate position x → started text plate position ≡ Refused x
+  start-refusal : (x : Refusal) → StartRefused text plate position x → started text plate position ≡ Err x
   unfolding started started_by started_form started_inside started_verdict
   start-refusal (OfChart r) h = rw h
   start-refusal (Plate line) w = rw (w.taken, (bad-line-exact w.chart.positions line plate).1 w.bad)
   start-refusal Position (w, l) = readable-start w ∙ rw (le-ltb position n l)
-  start-refusal (Fault v c) (is, l) = inside-start (faulty-readable is) l (FaultAt v c) (faulty-at text plate v c is)
+  start-refusal (Fault v c) (is, l) = inside-start (faulty-readable is) l (Err (fault_of v c)) (faulty-at text plate v c is)
   start-refusal Lanes is = absurd is
   start-refusal NotSmall is = absurd is
   start-refusal Short is = absurd is
@@ -239,13 +233,13 @@ module _ (text plate : List ℕ) (position : ℕ) where
   start-refusal Move is = absurd is
   start-refusal Seen is = absurd is
 
-  start-from : (r : Started) → StartIs text plate position r → started text plate position ≡ r
+  start-from : (r : Result (Run × Advice) Refusal) → StartIs text plate position r → started text plate position ≡ r
   unfolding started_verdict
-  start-from (Begun run advice) (is, l, e, z) =
-      inside-start (accepted-readable is) l Sound (accepted-sound text plate is) ∙ rw (e, z)
-  start-from (Refused x) is = start-refusal x is
+  start-from (Ok (run, advice)) (is, l, e, z) =
+      inside-start (accepted-readable is) l (Ok tt) (accepted-sound text plate is) ∙ rw (e, z)
+  start-from (Err x) is = start-refusal x is
 
-  pub start-exactly : (r : Started) → (started text plate position ≡ r) ↔ StartIs text plate position r
+  pub start-exactly : (r : Result (Run × Advice) Refusal) → (started text plate position ≡ r) ↔ StartIs text plate position r
   start-exactly r = (
     λ e. subst (StartIs text plate position) e start-answered,
     start-from r,

@@ -1,6 +1,6 @@
 -- The guarantee of any texts. One report carries a bound over, whatever run and texts it gets: a refused one leaves the run, and for one that
 -- is taken the plate is certified at the position that is left, and its value there is the one that the run held, on whatever texts.
-use Rattle.std.specs.Prelude.{ℕ, ◌+◌, ◌<◌, ◌≡◌, refl, T}
+use Rattle.std.specs.Prelude.{ℕ, ◌+◌, ◌<◌, ◌≡◌, refl, T, Result, Ok, Err}
 use Rattle.std.proofs.Common.{arith, zero-add, add-zero, ◌∙◌, inl, inr}
 use Rattle.std.proofs.Math.Path.{sym, ap, subst}
 use mathlib.Core.List.{List, [], ◌∷◌}
@@ -25,10 +25,8 @@ use Rattle.run.specs.Answers.{Moves, ReportIs, StartIs}
 use Rattle.run.proofs.AnswersExact.{report-exactly, start-exactly}
 use Rattle.run.specs.AnyTexts.{Report, Sustained, Texts, answered, disturbing, kind_of, run_after, seen_after, stands_on, texts_after}
 use Rattle.run.specs.declared.Run.{Run}
+use Rattle.refusal.specs.declared.Refusal.{Refusal}
 use Rattle.run.specs.declared.Advice.{Advice}
-use Rattle.run.specs.declared.Answer.{Answer}
-use Rattle.run.specs.declared.Answer.TheVariants.{Taken, Refused}
-use Rattle.run.specs.declared.Started.TheVariants.{Begun}
 
 -- what a report does to the run, by the exact conditions of its answers
 pub report-does : (run : Run) (text plate : List ℕ) (to : ℕ) → ReportIs run text plate to (reported run text plate to).run (reported run text plate to).answer
@@ -62,13 +60,13 @@ module _ (run : Run) (text plate : List ℕ) (to : ℕ) (x : Value) where
     arrives c after e h =
         subst Bounds (sym e) (subst (λ (v : Value). x ≼ v ⊕ c) (sym (plate-value text plate w.stands.accepted to w.stands.inside)) h)
 
-  carried : (after : Run) (r : Answer) → ReportIs run text plate to after r → Bounds run → Bounds after
-  carried after (Refused y) is h = subst Bounds (sym is.1) h
-  carried after (Taken advice) (inl (w, e), z) h =
+  carried : (after : Run) (r : Result Advice Refusal) → ReportIs run text plate to after r → Bounds run → Bounds after
+  carried after (Err y) is h = subst Bounds (sym is.1) h
+  carried after (Ok advice) (inl (w, e), z) h =
       let m = meant-follows (arena_of text) (choice_in_plate plate run.position) run.position to w.kind in
       arrives w run.seen after e
       (chosen-move-holds (arena_of text) (value_in_plate plate) (choice_in_plate plate) (step_in_plate plate) run.position to run.seen x (here w) m.0 m.1 (left w h))
-  carried after (Taken advice) (inr (w, l, e), z) h =
+  carried after (Ok advice) (inr (w, l, e), z) h =
       let d = disturbance-follows (arena_of text) (choice_in_plate plate run.position) run.position to w.kind in
       arrives w (run.seen + 1) after e
       (rw (disturbance-costs-one (arena_of text) run.position to) at
@@ -127,21 +125,21 @@ module _ (first : Texts) (position : ℕ) where
             sums = h;
           }
 
-      goes : (after : Run) (a : Answer) → ReportIs run r.texts.chart r.texts.plate r.to after a
+      goes : (after : Run) (a : Result Advice Refusal) → ReportIs run r.texts.chart r.texts.plate r.to after a
           → value_of after.initial ≼ value_of after.value ⊕ after.seen → Standing (stands_on a r.texts last) (seen + disturbing a (kind_of run r)) after
       unfolding stands_on disturbing
-      goes after (Refused x) is h = rw (add-zero seen) (subst (Standing last seen) (sym is.1) s)
-      goes after (Taken advice) (inl (w, e), z) h = rw w.kind (arrived w run.seen after e 0 (s.counts ∙ sym (add-zero seen)) h)
-      goes after (Taken advice) (inr (w, l, e), z) h = rw w.kind (arrived w (run.seen + 1) after e 1 (ap (λ (c : ℕ). c + 1) s.counts) h)
+      goes after (Err x) is h = rw (add-zero seen) (subst (Standing last seen) (sym is.1) s)
+      goes after (Ok advice) (inl (w, e), z) h = rw w.kind (arrived w run.seen after e 0 (s.counts ∙ sym (add-zero seen)) h)
+      goes after (Ok advice) (inr (w, l, e), z) h = rw w.kind (arrived w (run.seen + 1) after e 1 (ap (λ (c : ℕ). c + 1) s.counts) h)
 
       stays : value_of (answered run r).run.initial ≡ value_of run.initial
       unfolding moved
       stays = go (answered run r).run (answered run r).answer (report-does run r.texts.chart r.texts.plate r.to)
         where
-          go : (after : Run) (a : Answer) → ReportIs run r.texts.chart r.texts.plate r.to after a → value_of after.initial ≡ value_of run.initial
-          go after (Refused x) is = ap (λ (a : Run). value_of a.initial) is.1
-          go after (Taken advice) (inl (w, e), z) = ap (λ (a : Run). value_of a.initial) e
-          go after (Taken advice) (inr (w, l, e), z) = ap (λ (a : Run). value_of a.initial) e
+          go : (after : Run) (a : Result Advice Refusal) → ReportIs run r.texts.chart r.texts.plate r.to after a → value_of after.initial ≡ value_of run.initial
+          go after (Err x) is = ap (λ (a : Run). value_of a.initial) is.1
+          go after (Ok advice) (inl (w, e), z) = ap (λ (a : Run). value_of a.initial) e
+          go after (Ok advice) (inr (w, l, e), z) = ap (λ (a : Run). value_of a.initial) e
 
       reported-stands : Standing (stands_on (answered run r).answer r.texts last) (seen + disturbing (answered run r).answer (kind_of run r)) (answered run r).run
       reported-stands =
@@ -171,12 +169,12 @@ module _ (first : Texts) (position : ℕ) where
       }
 
 -- "From then on a user may lend any texts at any report": whichever they are, and however many
-module _ (text plate : List ℕ) (position : ℕ) (run : Run) (advice : Advice) (e : started text plate position ≡ Begun run advice) where
+module _ (text plate : List ℕ) (position : ℕ) (run : Run) (advice : Advice) (e : started text plate position ≡ Ok (run, advice)) where
   abbrev first : Texts
   first = record { chart = text; plate = plate }
 
-  begun : StartIs text plate position (Begun run advice)
-  begun = (start-exactly text plate position (Begun run advice)).0 e
+  begun : StartIs text plate position (Ok (run, advice))
+  begun = (start-exactly text plate position (Ok (run, advice))).0 e
 
   pub stands-with-any-texts : (reports : List Report) → Standing first position (texts_after run first reports) (seen_after run 0 reports) (run_after run reports)
   stands-with-any-texts reports =

@@ -1,6 +1,8 @@
 -- A run begun by a start whose texts stay the same. That its sum holds is a case of any texts; that its reports are a play of the plate's
 -- controller is shown one report at a time: it is refused and nothing changes, or it is the controller's move or a disturbance.
-use Rattle.std.specs.Prelude.{ℕ, ◌+◌, ◌≡◌}
+use Rattle.std.specs.Prelude.{ℕ, ◌+◌, ◌≡◌, ⊤, Result, Ok, Err}
+use Rattle.verdict.specs.declared.FoundFault.{FoundFault}
+use Rattle.verdict.specs.Verdict.{fault_of}
 use Rattle.std.proofs.Common.{arith, ◌∙◌, inl, inr}
 use Rattle.std.proofs.Math.Path.{refl, sym, ap, subst}
 use mathlib.Core.List.{List, [], ◌∷◌}
@@ -15,8 +17,6 @@ use Rattle.chart.specs.Meaning.{arena_of}
 use Rattle.chart.specs.Accepted.{accepted-chartable}
 use Rattle.refusal.specs.declared.Refusal.TheVariants.{Fault, Held}
 use Rattle.plate.specs.Read.{value_in_plate, choice_in_plate, step_in_plate}
-use Rattle.verdict.specs.declared.Verdict.{Verdict}
-use Rattle.verdict.specs.declared.Verdict.TheVariants.{Sound, Fault as FaultAt}
 use Rattle.checking.specs.Answers.{AcceptedIs}
 use Rattle.checking.specs.AnswersExact.{accepted-sound, faulty-at}
 use Rattle.moves.specs.Moves.{move_kind}
@@ -30,17 +30,15 @@ use Rattle.run.specs.Following.{Follows, grown, trail_after, trail_with, with_te
 use Rattle.moves.specs.declared.Kind.{Kind}
 use Rattle.moves.specs.declared.Kind.TheVariants.{Meant, Disturbance}
 use Rattle.run.specs.declared.Run.{Run}
+use Rattle.refusal.specs.declared.Refusal.{Refusal}
 use Rattle.run.specs.declared.Advice.{Advice}
-use Rattle.run.specs.declared.Answer.{Answer}
-use Rattle.run.specs.declared.Answer.TheVariants.{Taken, Refused}
-use Rattle.run.specs.declared.Started.TheVariants.{Begun}
 
 -- where every report is lent the texts of the start, the run stands on them
 module _ (texts : Texts) where
-  stays_on : (a : Answer) → stands_on a texts texts ≡ texts
+  stays_on : (a : Result Advice Refusal) → stands_on a texts texts ≡ texts
   unfolding stands_on
-  stays_on (Taken advice) = refl
-  stays_on (Refused x) = refl
+  stays_on (Ok advice) = refl
+  stays_on (Err x) = refl
 
   same-texts : (tos : List ℕ) (run : Run) → texts_after run texts (with_texts texts tos) ≡ texts
   unfolding texts_after
@@ -83,11 +81,11 @@ module _ (text plate : List ℕ) (legal : Legal (arena_of text) (choice_in_plate
         }
 
     -- one report
-    traced : (after : Run) (r : Answer) → ReportIs run text plate to after r → Traced after (grown r kind to t)
+    traced : (after : Run) (r : Result Advice Refusal) → ReportIs run text plate to after r → Traced after (grown r kind to t)
     unfolding grown
-    traced after (Refused x) is = subst (λ (u : Run). Traced u t) (sym is.1) f
-    traced after (Taken advice) (inl (w, e), z) = rw w.kind (subst (λ (u : Run). Traced u (meant t to)) (sym e) (traced-meant w.kind (number_of (value_in_plate plate to))))
-    traced after (Taken advice) (inr (w, l, e), z) = rw w.kind (subst (λ (u : Run). Traced u (disturbed t to)) (sym e) (traced-disturbance w.kind (number_of (value_in_plate plate to))))
+    traced after (Err x) is = subst (λ (u : Run). Traced u t) (sym is.1) f
+    traced after (Ok advice) (inl (w, e), z) = rw w.kind (subst (λ (u : Run). Traced u (meant t to)) (sym e) (traced-meant w.kind (number_of (value_in_plate plate to))))
+    traced after (Ok advice) (inr (w, l, e), z) = rw w.kind (subst (λ (u : Run). Traced u (disturbed t to)) (sym e) (traced-disturbance w.kind (number_of (value_in_plate plate to))))
 
     report-traced : Traced (reported run text plate to).run (trail_with text plate run to t)
     unfolding trail_with
@@ -102,15 +100,15 @@ module _ (text plate : List ℕ) (legal : Legal (arena_of text) (choice_in_plate
 
   -- a play that is paid for by what was seen is safe while less was seen than the value at its start
   module _ (is : AcceptedIs text plate) (seen : ℕ) (run : Run) (s : Standing (record { chart = text; plate = plate }) position (record { chart = text; plate = plate }) seen run) where
-    never-faulted : (to v c : ℕ) → (reported run text plate to).answer ≡ Refused (Fault v c) → ⊥
+    never-faulted : (to v c : ℕ) → (reported run text plate to).answer ≡ Err (Fault v c) → ⊥
     never-faulted to v c e =
         let at = subst (ReportIs run text plate to (reported run text plate to).run) e (report-does run text plate to) in
         apart (sym (accepted-sound text plate is) ∙ faulty-at text plate v c at.0.0)
       where
-        apart : ◌≡◌ {A = Verdict} Sound (FaultAt v c) → ⊥
+        apart : ◌≡◌ {A = Result ⊤ FoundFault} (Ok tt) (Err (fault_of v c)) → ⊥
         apart e = let z : ◌≡◌ {A = ℕ} 0 1 = cc in omega arith
 
-    never-swapped : (to : ℕ) → (reported run text plate to).answer ≡ Refused Held → ⊥
+    never-swapped : (to : ℕ) → (reported run text plate to).answer ≡ Err Held → ⊥
     never-swapped to e =
         let at = subst (ReportIs run text plate to (reported run text plate to).run) e (report-does run text plate to) in
         at.0.1 s.holds
@@ -134,12 +132,12 @@ module _ (text plate : List ℕ) (legal : Legal (arena_of text) (choice_in_plate
         }
 
 -- a start that is taken: the exact condition of that answer
-module _ (text plate : List ℕ) (position : ℕ) (run : Run) (advice : Advice) (e : started text plate position ≡ Begun run advice) where
+module _ (text plate : List ℕ) (position : ℕ) (run : Run) (advice : Advice) (e : started text plate position ≡ Ok (run, advice)) where
   abbrev own : Texts
   own = record { chart = text; plate = plate }
 
-  begun : StartIs text plate position (Begun run advice)
-  begun = (start-exactly text plate position (Begun run advice)).0 e
+  begun : StartIs text plate position (Ok (run, advice))
+  begun = (start-exactly text plate position (Ok (run, advice))).0 e
 
   -- the plate's choices are those of a controller
   pub begun-is-legal : Legal (arena_of text) (choice_in_plate plate)

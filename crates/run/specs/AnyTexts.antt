@@ -1,6 +1,6 @@
 -- A run and its reports, each with texts of its own (document 02, order 5): "From then on a user may lend any texts at any report, and present
 -- value plus disturbances seen is still at least the starting value after all accepted reports."
-use Rattle.std.specs.Prelude.{ℕ, ◌+◌, ◌<◌, ◌≡◌, List, [], ◌∷◌, T}
+use Rattle.std.specs.Prelude.{ℕ, ◌+◌, ◌<◌, ◌≡◌, List, [], ◌∷◌, T, Result, Ok, Err}
 use Rattle.rows.specs.Numbers.{value_of}
 use Rattle.game.specs.Value.{fin, ◌≼◌, ◌≺◌, ◌⊕◌}
 use Rattle.game.specs.Arena.{size, unsafe}
@@ -12,8 +12,8 @@ use Rattle.moves.specs.declared.Kind.{Kind}
 use Rattle.moves.specs.declared.Kind.TheVariants.{Meant, Disturbance, Neither}
 use Rattle.run.specs.Running.{reported}
 use Rattle.run.specs.declared.Run.{Run}
-use Rattle.run.specs.declared.Answer.{Answer}
-use Rattle.run.specs.declared.Answer.TheVariants.{Taken, Refused}
+use Rattle.run.specs.declared.Advice.{Advice}
+use Rattle.refusal.specs.declared.Refusal.{Refusal}
 use Rattle.run.specs.declared.Reported.{Reported}
 
 -- the two texts that are lent to a start or a report
@@ -35,16 +35,16 @@ abbrev pub kind_of : Run → Report → Kind
 kind_of run r = move_kind (arena_of r.texts.chart) (choice_in_plate r.texts.plate run.position) run.position r.to
 
 -- the texts that the run stands on: those of a report that was taken; a refused one leaves them as they were
-unfoldable pub stands_on : Answer → (lent before : Texts) → Texts
-stands_on (Taken advice) lent before = lent
-stands_on (Refused x) lent before = before
+unfoldable pub stands_on : Result Advice Refusal → (lent before : Texts) → Texts
+stands_on (Ok advice) lent before = lent
+stands_on (Err x) lent before = before
 
 -- the disturbances seen by a report: one if it was taken as a disturbance
-unfoldable pub disturbing : Answer → Kind → ℕ
-disturbing (Taken advice) Disturbance = 1
-disturbing (Taken advice) Meant = 0
-disturbing (Taken advice) Neither = 0
-disturbing (Refused x) k = 0
+unfoldable pub disturbing : Result Advice Refusal → Kind → ℕ
+disturbing (Ok advice) Disturbance = 1
+disturbing (Ok advice) Meant = 0
+disturbing (Ok advice) Neither = 0
+disturbing (Err x) k = 0
 
 -- after reports, the oldest first: the run,
 unfoldable pub run_after : Run → List Report → Run

@@ -1,6 +1,6 @@
 -- A run and its reports where the texts stay the same (document 01, "The run"): the play that the accepted reports are, and what holds of
 -- it and of the run.
-use Rattle.std.specs.Prelude.{ℕ, ◌≡◌, List, [], ◌∷◌, map}
+use Rattle.std.specs.Prelude.{ℕ, ◌≡◌, List, [], ◌∷◌, map, Result, Ok, Err}
 use Rattle.rows.specs.Numbers.{value_of}
 use Rattle.game.specs.Value.{fin, ◌≼◌, ◌≺◌, ◌⊕◌}
 use Rattle.game.specs.Play.{Trail, meant, disturbed, last, cost, Play, Unsafe, Legal, positional}
@@ -12,16 +12,16 @@ use Rattle.run.specs.Running.{reported}
 use Rattle.run.specs.AnyTexts.{Report, Texts}
 use Rattle.moves.specs.declared.Kind.{Kind}
 use Rattle.moves.specs.declared.Kind.TheVariants.{Meant, Disturbance, Neither}
+use Rattle.run.specs.declared.Advice.{Advice}
+use Rattle.refusal.specs.declared.Refusal.{Refusal}
 use Rattle.run.specs.declared.Run.{Run}
-use Rattle.run.specs.declared.Answer.{Answer}
-use Rattle.run.specs.declared.Answer.TheVariants.{Taken, Refused}
 
 -- an accepted report adds its move to the trail, as what it is; a refused one adds nothing
-unfoldable pub grown : Answer → Kind → ℕ → Trail → Trail
-grown (Taken advice) Meant to t = meant t to
-grown (Taken advice) Disturbance to t = disturbed t to
-grown (Taken advice) Neither to t = t
-grown (Refused x) k to t = t
+unfoldable pub grown : Result Advice Refusal → Kind → ℕ → Trail → Trail
+grown (Ok advice) Meant to t = meant t to
+grown (Ok advice) Disturbance to t = disturbed t to
+grown (Ok advice) Neither to t = t
+grown (Err x) k to t = t
 
 -- reports that are all lent the same texts, of the positions that the machine went to
 abbrev pub with_texts : Texts → List ℕ → List Report
@@ -49,5 +49,5 @@ module _ (text plate : List ℕ) where
     -- and while less was seen than that, every position so far was safe
     pub safe : fin run.seen ≺ value_of run.initial → Unsafe (arena_of text) position t → ⊥
     -- a report with these texts is turned away neither by 14 nor by 18
-    pub sound : (to v c : ℕ) → (reported run text plate to).answer ≡ Refused (Fault v c) → ⊥
-    pub held : (to : ℕ) → (reported run text plate to).answer ≡ Refused Held → ⊥
+    pub sound : (to v c : ℕ) → (reported run text plate to).answer ≡ Err (Fault v c) → ⊥
+    pub held : (to : ℕ) → (reported run text plate to).answer ≡ Err Held → ⊥

@@ -1,6 +1,7 @@
 -- Start and report (document 01, "The run" and the refusal table, and document 02, order 5): what each answers to any two texts and, for a
 -- report, any run.
-use Rattle.std.specs.Prelude.{ℕ, ◌+◌, ◌≡◌, cond, List, eqb, ltb}
+use Rattle.std.specs.Prelude.{ℕ, ◌+◌, ◌≡◌, cond, List, eqb, ltb, ⊤, Result, Ok, Err}
+use Rattle.verdict.specs.declared.FoundFault.{FoundFault}
 use Rattle.rows.specs.Rows.{RowsOf}
 use Rattle.rows.specs.Numbers.{number_of}
 use Rattle.game.specs.Arena.{Arena, size}
@@ -8,23 +9,16 @@ use Rattle.chart.specs.Meaning.{arena_of}
 use Rattle.chart.specs.Examined.{examined}
 use Rattle.refusal.specs.declared.Refusal.{Refusal}
 use Rattle.refusal.specs.declared.Refusal.TheVariants.{Chart as OfChart, Plate, Position, Fault, Held, Move, Seen}
-use Rattle.chart.specs.declared.Examination.{Examination}
-use Rattle.chart.specs.declared.Examination.TheVariants.{Accepted as Taken, Refused as Turned}
 use Rattle.plate.specs.Formed.{form_of}
 use Rattle.plate.specs.Read.{value_in_plate, choice_in_plate}
-use Rattle.plate.specs.declared.Form.{Form as PlateForm}
-use Rattle.plate.specs.declared.Form.TheVariants.{Good, Bad}
-use Rattle.verdict.specs.declared.Verdict.{Verdict}
-use Rattle.verdict.specs.declared.Verdict.TheVariants.{Sound, Fault as FaultAt}
 use Rattle.checking.specs.Checking.{plate_verdict}
 use Rattle.moves.specs.Moves.{move_kind}
 use Rattle.moves.specs.declared.Kind.{Kind}
 use Rattle.moves.specs.declared.Kind.TheVariants.{Meant, Disturbance, Neither}
 use Rattle.run.specs.declared.Run.{Run}
 use Rattle.run.specs.declared.Advice.{Advice}
-use Rattle.run.specs.declared.Started.{Started}
-use Rattle.run.specs.declared.Started.TheVariants.{Begun, Refused}
-use Rattle.run.specs.declared.Answer.TheVariants.{Taken as Went, Refused as Declined}
+use Rattle.rows.specs.declared.Chart.{Chart}
+use Rattle.refusal.specs.declared.Misdrawn.{Misdrawn}
 use Rattle.run.specs.declared.Reported.{Reported}
 
 -- "Each answer gives the plate's choice and value at the position now held."
@@ -43,28 +37,28 @@ run_at plate position = run_of position 0 (number_of (value_in_plate plate posit
 abbrev pub no_run : Run
 no_run = run_of 18446744073709551615 0 0 0
 
-abbrev pub begun_at : List ℕ → ℕ → Started
-begun_at plate position = Begun (run_at plate position) (advice_at plate position)
+abbrev pub begun_at : List ℕ → ℕ → Result (Run × Advice) Refusal
+begun_at plate position = Ok ((run_at plate position), (advice_at plate position))
 
 -- "begins only by the start job, which wants an accepted plate": by the plate's first fault, 14
-unfoldable pub started_verdict : List ℕ → ℕ → Verdict → Started
-started_verdict plate position (FaultAt v c) = Refused (Fault v c)
-started_verdict plate position Sound = begun_at plate position
+unfoldable pub started_verdict : List ℕ → ℕ → Result ⊤ FoundFault → Result (Run × Advice) Refusal
+started_verdict plate position (Err f) = Err (Fault f.position f.condition)
+started_verdict plate position (Ok _) = begun_at plate position
 
 -- 13 comes before 14
-unfoldable pub started_inside : Arena → List ℕ → ℕ → Started
-started_inside a plate position = cond (ltb position (size a)) (started_verdict plate position (plate_verdict a plate)) (Refused Position)
+unfoldable pub started_inside : Arena → List ℕ → ℕ → Result (Run × Advice) Refusal
+started_inside a plate position = cond (ltb position (size a)) (started_verdict plate position (plate_verdict a plate)) (Err Position)
 
 -- and 11 before both
-unfoldable pub started_form : Arena → List ℕ → ℕ → PlateForm → Started
-started_form a plate position (Bad line) = Refused (Plate line)
-started_form a plate position Good = started_inside a plate position
+unfoldable pub started_form : Arena → List ℕ → ℕ → Result ⊤ ℕ → Result (Run × Advice) Refusal
+started_form a plate position (Err line) = Err (Plate line)
+started_form a plate position (Ok _) = started_inside a plate position
 
-unfoldable pub started_by : List ℕ → List ℕ → ℕ → Examination → Started
-started_by text plate position (Turned r) = Refused (OfChart r)
-started_by text plate position (Taken chart) = started_form (arena_of text) plate position (form_of chart.positions plate)
+unfoldable pub started_by : List ℕ → List ℕ → ℕ → Result Chart Misdrawn → Result (Run × Advice) Refusal
+started_by text plate position (Err r) = Err (OfChart r)
+started_by text plate position (Ok chart) = started_form (arena_of text) plate position (form_of chart.positions plate)
 
-unfoldable pub started : List ℕ → List ℕ → ℕ → Started
+unfoldable pub started : List ℕ → List ℕ → ℕ → Result (Run × Advice) Refusal
 started text plate position = started_by text plate position (examined text)
 
 -- the run at another position, with so many disturbances seen and the value there; its starting value stays
@@ -73,11 +67,11 @@ moved run to seen value = run_of to seen run.initial value
 
 -- a report that is taken: the run holds the lent plate's value at the new position
 unfoldable pub standing : Run → List ℕ → (to seen : ℕ) → Reported
-standing run plate to seen = record { run = moved run to seen (number_of (value_in_plate plate to)); answer = Went (advice_at plate to) }
+standing run plate to seen = record { run = moved run to seen (number_of (value_in_plate plate to)); answer = Ok (advice_at plate to) }
 
 -- "the run comes back unchanged"
 unfoldable pub unmoved : Run → Refusal → Reported
-unmoved run refusal = record { run = run; answer = Declined refusal }
+unmoved run refusal = record { run = run; answer = Err refusal }
 
 -- by what the move is: "15 the reported move can't follow", "16 a disturbance with 99,999 or more seen"
 unfoldable pub reported_move : Run → List ℕ → ℕ → Kind → Reported
@@ -93,9 +87,9 @@ reported_accepted run a plate to =
     (unmoved run Held)
 
 -- "A report shall check the plate (14), then compare."
-unfoldable pub reported_verdict : Run → Arena → List ℕ → ℕ → Verdict → Reported
-reported_verdict run a plate to (FaultAt v c) = unmoved run (Fault v c)
-reported_verdict run a plate to Sound = reported_accepted run a plate to
+unfoldable pub reported_verdict : Run → Arena → List ℕ → ℕ → Result ⊤ FoundFault → Reported
+reported_verdict run a plate to (Err f) = unmoved run (Fault f.position f.condition)
+reported_verdict run a plate to (Ok _) = reported_accepted run a plate to
 
 -- "13 covers the run's own position as well"; it comes before 14
 unfoldable pub reported_inside : Run → Arena → List ℕ → ℕ → Reported
@@ -105,24 +99,24 @@ reported_inside run a plate to =
     (unmoved run Position)
 
 -- and 11 before both
-unfoldable pub reported_form : Run → Arena → List ℕ → ℕ → PlateForm → Reported
-reported_form run a plate to (Bad line) = unmoved run (Plate line)
-reported_form run a plate to Good = reported_inside run a plate to
+unfoldable pub reported_form : Run → Arena → List ℕ → ℕ → Result ⊤ ℕ → Reported
+reported_form run a plate to (Err line) = unmoved run (Plate line)
+reported_form run a plate to (Ok _) = reported_inside run a plate to
 
-unfoldable pub reported_by : Run → List ℕ → List ℕ → ℕ → Examination → Reported
-reported_by run text plate to (Turned r) = unmoved run (OfChart r)
-reported_by run text plate to (Taken chart) = reported_form run (arena_of text) plate to (form_of chart.positions plate)
+unfoldable pub reported_by : Run → List ℕ → List ℕ → ℕ → Result Chart Misdrawn → Reported
+reported_by run text plate to (Err r) = unmoved run (OfChart r)
+reported_by run text plate to (Ok chart) = reported_form run (arena_of text) plate to (form_of chart.positions plate)
 
 unfoldable pub reported : Run → List ℕ → List ℕ → ℕ → Reported
 reported run text plate to = reported_by run text plate to (examined text)
 
 -- the refusal where a position is not on the chart, by the plate's form
-unfoldable pub off_chart : PlateForm → Refusal
-off_chart (Bad line) = Plate line
-off_chart Good = Position
+unfoldable pub off_chart : Result ⊤ ℕ → Refusal
+off_chart (Err line) = Plate line
+off_chart (Ok _) = Position
 
 -- the answers to a chart's rows, for every arena that the rows hold: to a start, and to a report, with any plate
-pub record RowsStart (n m : ℕ) (owners marks costs froms tos plate : List ℕ) (position : ℕ) (r : Started) : Type 0 where
+pub record RowsStart (n m : ℕ) (owners marks costs froms tos plate : List ℕ) (position : ℕ) (r : Result (Run × Advice) Refusal) : Type 0 where
   pub answer : (a : Arena) → RowsOf a n m owners marks costs froms tos → r ≡ started_form a plate position (form_of n plate)
 
 pub record RowsReport (n m : ℕ) (owners marks costs froms tos : List ℕ) (run : Run) (plate : List ℕ) (to : ℕ) (r : Reported) : Type 0 where
@@ -134,4 +128,4 @@ pub record AcceptedReport (n m : ℕ) (owners costs froms tos : List ℕ) (run :
 
 -- to a report with a plate that Checking accepts
 pub record CheckedReport (n m : ℕ) (owners costs froms tos : List ℕ) (run : Run) (plate : List ℕ) (to : ℕ) (r : Reported) : Type 0 where
-  pub answer : (a : Arena) (marks : List ℕ) → RowsOf a n m owners marks costs froms tos → plate_verdict a plate ≡ Sound → r ≡ reported_inside run a plate to
+  pub answer : (a : Arena) (marks : List ℕ) → RowsOf a n m owners marks costs froms tos → plate_verdict a plate ≡ Ok tt → r ≡ reported_inside run a plate to

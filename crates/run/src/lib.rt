@@ -7,11 +7,10 @@ ghost use Rattle.rows.specs.Rows.{Ascending, ChartRows};
 ghost use Rattle.plate.specs.Formed.{form_of};
 ghost use Rattle.run.specs.Running.{AcceptedReport, CheckedReport, RowsReport, RowsStart, advice_at, begun_at, moved, no_run, off_chart, reported, standing, started, unmoved};
 
-use chart::Examination;
-use checking::{Checked, check_plate};
+use checking::check_plate;
 use decode::load;
 use moves::{Kind, move_kind};
-use plate::{Form, LINE, examine_plate, number_at};
+use plate::{LINE, examine_plate, number_at};
 use refusal::Refusal;
 use rows::Chart;
 
@@ -34,25 +33,11 @@ pub struct Advice {
     pub value: u16,
 }
 
-// What a start answers: the run with its advice, or a refusal: the chart's, 11, 13 or 14.
-#[derive(Clone, Copy)]
-pub enum Started {
-    Begun(Run, Advice),
-    Refused(Refusal),
-}
-
-// What a report answers beside the run: advice, or a refusal: the chart's, 11, 13, 14, 18, 15 or 16.
-#[derive(Clone, Copy)]
-pub enum Answer {
-    Taken(Advice),
-    Refused(Refusal),
-}
-
-// The run that a report hands back, and its answer.
+// The run that a report hands back, and its answer: advice, or a refusal: the chart's, 11, 13, 14, 18, 15 or 16.
 #[derive(Clone, Copy)]
 pub struct Reported {
     pub run: Run,
-    pub answer: Answer,
+    pub answer: Result<Advice, Refusal>,
 }
 
 impl Run {
@@ -62,8 +47,8 @@ impl Run {
     // The most lanes of a house.
     pub const LANES: usize = 64;
 
-    // A run at a position, on an accepted plate.
-    pub fn start(text: &[u8], plate: &[u8], position: usize) -> Started
+    // A run at a position, on an accepted plate, with its advice; or a refusal: the chart's, 11, 13 or 14.
+    pub fn start(text: &[u8], plate: &[u8], position: usize) -> Result<(Run, Advice), Refusal>
         ensures { result ≡ started text.now plate.now position }
     {
         let mut owners = [0u8; Chart::POSITIONS];
@@ -71,21 +56,17 @@ impl Run {
         let mut costs = [0u8; Chart::MOVES];
         let mut froms = [0u16; Chart::MOVES];
         let mut tos = [0u16; Chart::MOVES];
-        match load(
+        let chart = load(
             text,
             &mut owners,
             &mut marks,
             &mut costs,
             &mut froms,
             &mut tos,
-        ) {
-            Examination::Refused(r) => Started::Refused(Refusal::Chart(r)),
-            Examination::Accepted(chart) => {
-                let n = chart.positions;
-                let m = chart.moves;
-                start_rows(n, m, &owners, &marks, &costs, &froms, &tos, plate, position)
-            }
-        }
+        )?;
+        let n = chart.positions;
+        let m = chart.moves;
+        start_rows(n, m, &owners, &marks, &costs, &froms, &tos, plate, position)
     }
 
     // The run after the machine went to a position, or the refusal with the run as it was.
@@ -105,8 +86,8 @@ impl Run {
             &mut froms,
             &mut tos,
         ) {
-            Examination::Refused(r) => self.unmoved(Refusal::Chart(r)),
-            Examination::Accepted(chart) => {
+            Err(r) => self.unmoved(Refusal::Chart(r)),
+            Ok(chart) => {
                 let n = chart.positions;
                 let m = chart.moves;
                 report_rows(self, n, m, &owners, &marks, &costs, &froms, &tos, plate, to)
@@ -127,7 +108,7 @@ impl Run {
         plate: &[u8],
         to: usize,
     ) -> Reported
-        requires { ((marks : List ℕ) × ChartRows n m owners.now marks costs.now froms.now tos.now) × Ascending m froms.now × (form_of n plate.now ≡ Form.Good) }
+        requires { ((marks : List ℕ) × ChartRows n m owners.now marks costs.now froms.now tos.now) × Ascending m froms.now × (form_of n plate.now ≡ Ok tt) }
         ensures { CheckedReport n m owners.now costs.now froms.now tos.now self plate.now to result }
     {
         if n <= self.position {
@@ -182,7 +163,7 @@ impl Run {
     {
         Reported {
             run: self,
-            answer: Answer::Refused(refusal),
+            answer: Err(refusal),
         }
     }
 
@@ -210,17 +191,15 @@ fn start_rows(
     tos: &[u16],
     plate: &[u8],
     position: usize,
-) -> Started
+) -> Result<(Run, Advice), Refusal>
     requires { ChartRows n m owners.now marks.now costs.now froms.now tos.now × Ascending m froms.now }
     ensures { RowsStart n m owners.now marks.now costs.now froms.now tos.now plate.now position result }
 {
     if n <= position {
-        return Started::Refused(off_chart(n, plate));
+        return Err(off_chart(n, plate));
     }
-    match check_plate(n, m, owners, marks, costs, froms, tos, plate) {
-        Checked::Refused(r) => Started::Refused(r),
-        Checked::Accepted => begin(n, plate, position),
-    }
+    check_plate(n, m, owners, marks, costs, froms, tos, plate)?;
+    Ok(begin(n, plate, position))
 }
 
 // The refusal where a position is not on the chart: 11 comes before 13.
@@ -228,27 +207,25 @@ fn off_chart(n: usize, plate: &[u8]) -> Refusal
     ensures { result ≡ off_chart (form_of n plate.now) }
 {
     match examine_plate(n, plate) {
-        Form::Bad(line) => Refusal::Plate(line),
-        Form::Good => Refusal::Position,
+        Err(line) => Refusal::Plate(line),
+        Ok(()) => Refusal::Position,
     }
 }
 
 // A run that begins at a position of an accepted plate.
-fn begin(n: usize, plate: &[u8], position: usize) -> Started
-    requires { (n ≤ 512) × (form_of n plate.now ≡ Form.Good) × (position < n) }
-    ensures { result ≡ begun_at plate.now position }
+fn begin(n: usize, plate: &[u8], position: usize) -> (Run, Advice)
+    requires { (n ≤ 512) × (form_of n plate.now ≡ Ok tt) × (position < n) }
+    ensures { Ok result ≡ begun_at plate.now position }
 {
     let advice = advice_at(n, plate, position);
     let initial = advice.value;
-    Started::Begun(
-        Run {
-            position,
-            seen: 0u32,
-            initial,
-            value: initial,
-        },
-        advice,
-    )
+    let run = Run {
+        position,
+        seen: 0u32,
+        initial,
+        value: initial,
+    };
+    (run, advice)
 }
 
 // The answer to a report, from a chart's rows: where both positions are on the chart, Checking's, and on an accepted plate the move's.
@@ -274,8 +251,8 @@ fn report_rows(
         return run.unmoved(off_chart(n, plate));
     }
     match check_plate(n, m, owners, marks, costs, froms, tos, plate) {
-        Checked::Refused(r) => run.unmoved(r),
-        Checked::Accepted => report_accepted(run, n, m, owners, costs, froms, tos, plate, to),
+        Err(r) => run.unmoved(r),
+        Ok(()) => report_accepted(run, n, m, owners, costs, froms, tos, plate, to),
     }
 }
 
@@ -291,7 +268,7 @@ fn report_accepted(
     plate: &[u8],
     to: usize,
 ) -> Reported
-    requires { ((marks : List ℕ) × ChartRows n m owners.now marks costs.now froms.now tos.now) × Ascending m froms.now × (form_of n plate.now ≡ Form.Good) × (run.position < n) × (to < n) }
+    requires { ((marks : List ℕ) × ChartRows n m owners.now marks costs.now froms.now tos.now) × Ascending m froms.now × (form_of n plate.now ≡ Ok tt) × (run.position < n) × (to < n) }
     ensures { AcceptedReport n m owners.now costs.now froms.now tos.now run plate.now to result }
 {
     let v = run.position;
@@ -314,20 +291,20 @@ fn report_accepted(
 
 // The run at another position, with so many disturbances seen; it holds the value of the advice there.
 fn stand(run: Run, to: usize, seen: u32, n: usize, plate: &[u8]) -> Reported
-    requires { (n ≤ 512) × (form_of n plate.now ≡ Form.Good) × (to < n) }
+    requires { (n ≤ 512) × (form_of n plate.now ≡ Ok tt) × (to < n) }
     ensures { result ≡ standing run plate.now to seen }
 {
     let advice = advice_at(n, plate, to);
     let value = advice.value;
     Reported {
         run: run.moved(to, seen, value),
-        answer: Answer::Taken(advice),
+        answer: Ok(advice),
     }
 }
 
 // Choice and value of a position, on its line of a plate of the form.
 fn advice_at(n: usize, plate: &[u8], v: usize) -> Advice
-    requires { (n ≤ 512) × (form_of n plate.now ≡ Form.Good) × (v < n) }
+    requires { (n ≤ 512) × (form_of n plate.now ≡ Ok tt) × (v < n) }
     ensures { result ≡ advice_at plate.now v }
 {
     let at = (v + 1) * LINE;

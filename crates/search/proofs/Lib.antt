@@ -1,2 +1,3 @@
 pub mod Cases
 pub mod FirstLaws
+pub mod HandedOn

@@ -16,8 +16,7 @@ pub fn write_lines(letter: u8, count: usize, firsts: &[u16], seconds: &[u16], li
     requires { (count ≤ length firsts.now) × (count ≤ length seconds.now) × (count * 12 ≤ length lines.old) }
     ensures { lines.new ≡ pair_lines letter firsts.now seconds.now count ++ drop (count * 12) lines.old }
 {
-    let mut i = 0;
-    while i < count {
+    for i in 0..count {
         let at = i * Chart::LINE;
         write_line(
             letter,
@@ -25,7 +24,6 @@ pub fn write_lines(letter: u8, count: usize, firsts: &[u16], seconds: &[u16], li
             seconds[i] as u32,
             &mut lines[at..],
         );
-        i += 1;
     }
 }
 

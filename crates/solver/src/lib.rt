@@ -24,11 +24,9 @@ fn settle(
     requires { Within n m costs.now froms.now tos.now × (n ≤ 512) × (k < 65535) × (n ≤ length owners.now) × (n ≤ length flags.old) × (n ≤ length values.old) × (n ≤ length steps.old) }
     ensures { Settling n m owners.now costs.now froms.now tos.now k n values.old steps.old values.new steps.new }
 {
-    let mut s: u16 = 0;
-    while (s as usize) < n {
+    for s in 0..n as u16 {
         flag_ready(n, m, owners, costs, froms, tos, values, flags);
-        s += 1;
-        let count = place(n, flags, k, s, values, steps);
+        let count = place(n, flags, k, s + 1, values, steps);
         if count == 0 {
             return;
         }
@@ -103,14 +101,12 @@ pub fn solve(
     first_value(
         n, m, owners, marks, costs, froms, tos, &mut flags, values, steps,
     );
-    let mut last: u16 = 0;
-    while (last as usize) < n {
+    for last in 0..n as u16 {
         let count = next_value(
             n, m, owners, costs, froms, tos, last, &mut flags, values, steps,
         );
         if count == 0 {
             return;
         }
-        last += 1;
     }
 }

@@ -25,11 +25,7 @@ pub fn word(text: &[u8], at: usize) -> u32
     requires { at + 4 ≤ length text.now }
     ensures { WordIs text.now at result }
 {
-    let a = wide(text[at]);
-    let b = wide(text[at + 1]);
-    let c = wide(text[at + 2]);
-    let d = wide(text[at + 3]);
-    a + b * 256 + c * 65536 + d * 16777216
+    u32::from_le_bytes([text[at], text[at + 1], text[at + 2], text[at + 3]])
 }
 
 // The last three of the five bytes of x as a word, without a jump. The bound is what three bytes can spell.
@@ -46,17 +42,9 @@ pub fn spell_all(n: usize, words: &mut [u32])
     requires { (n ≤ length words.old) × (n ≤ 1000) }
     ensures { Filled words.old words.new n spelt }
 {
-    let mut v: usize = 0;
-    while v < n {
+    for v in 0..n {
         words[v] = spell(v);
-        v += 1;
     }
-}
-
-fn wide(b: u8) -> u32
-    ensures { (result ≡ b) × (result < 256) }
-{
-    b as u32
 }
 
 // A zero in the place of each digit of x, and spaces before them: each digit is added to one of these.

@@ -16,8 +16,7 @@ pub fn write_positions(n: usize, owners: &[u8], marks: &[u8], lines: &mut [u8])
     requires { (n ≤ 3) × (n ≤ length owners.now) × (n ≤ length marks.now) × (n * 12 ≤ length lines.old) }
     ensures { Written (joined (owner_line owners.now marks.now) n) (n * 12) lines.old lines.new }
 {
-    let mut v = 0;
-    while v < n {
+    for v in 0..n {
         let at = v * Chart::LINE;
         write_line(
             owner_letter(owners[v]),
@@ -25,7 +24,6 @@ pub fn write_positions(n: usize, owners: &[u8], marks: &[u8], lines: &mut [u8])
             marks[v] as u32,
             &mut lines[at..],
         );
-        v += 1;
     }
 }
 
@@ -41,10 +39,8 @@ pub fn count_moves(n: usize, meant: [[bool; 3]; 3], disturbances: [[bool; 3]; 3]
     ensures { result ≡ moves_count n meant disturbances n }
 {
     let mut count = 0;
-    let mut v = 0;
-    while v < n {
+    for v in 0..n {
         count = count + count_targets(n, meant[v]) + count_targets(n, disturbances[v]);
-        v += 1;
     }
     count
 }
@@ -54,12 +50,10 @@ fn count_targets(n: usize, row: [bool; 3]) -> usize
     ensures { result ≡ count_below (yes row) n }
 {
     let mut count = 0;
-    let mut w = 0;
-    while w < n {
+    for w in 0..n {
         if row[w] {
             count += 1;
         }
-        w += 1;
     }
     count
 }
@@ -71,11 +65,9 @@ pub fn write_moves(n: usize, meant: [[bool; 3]; 3], disturbances: [[bool; 3]; 3]
     ensures { Written (joined (move_lines n meant disturbances) n) (moves_count n meant disturbances n * 12) lines.old lines.new }
 {
     let mut at = 0;
-    let mut v = 0;
-    while v < n {
+    for v in 0..n {
         at += write_targets(b'M', v, n, meant[v], &mut lines[at..]);
         at += write_targets(b'D', v, n, disturbances[v], &mut lines[at..]);
-        v += 1;
     }
 }
 
@@ -85,13 +77,11 @@ fn write_targets(letter: u8, from: usize, n: usize, row: [bool; 3], lines: &mut 
     ensures { TargetsWritten letter from n row lines.old lines.new result }
 {
     let mut at = 0;
-    let mut w = 0;
-    while w < n {
+    for w in 0..n {
         if row[w] {
             write_line(letter, from as u32, w as u32, &mut lines[at..]);
             at += Chart::LINE;
         }
-        w += 1;
     }
     at
 }

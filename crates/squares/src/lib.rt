@@ -14,12 +14,7 @@ pub fn sets(n: usize) -> usize
     requires { n ≤ 3 }
     ensures { result ≡ 2 ^ n }
 {
-    match n {
-        0 => 1,
-        1 => 2,
-        2 => 4,
-        _ => 8,
-    }
+    1 << n
 }
 
 // How many charts of n positions there are, of 1 to 3 as callers have tested.
@@ -108,7 +103,7 @@ fn lane_in(t: usize, d: usize) -> u8
     requires { (2 ≤ t) × (t ≤ 8) }
     ensures { result ≡ bit (lane_in t d) }
 {
-    if d < console_digits(t) { 0 } else { 1 }
+    u8::from(d >= console_digits(t))
 }
 
 // Mark and meant set together.
@@ -124,7 +119,7 @@ fn mark_in(t: usize, d: usize) -> u8
     requires { (2 ≤ t) × (t ≤ 8) }
     ensures { result ≡ mark_in t d }
 {
-    if rest_in(t, d) < t - 1 { 0 } else { 1 }
+    u8::from(rest_in(t, d) >= t - 1)
 }
 
 fn meant_in(t: usize, d: usize) -> usize
@@ -179,12 +174,10 @@ pub fn index_of(
     let t = sets(n);
     let base = digit_count(t);
     let mut index = 0;
-    let mut v = 0;
-    while v < n {
+    for v in 0..n {
         let meant_set = set_of(meant[v]);
         let disturbance_set = set_of(disturbances[v]);
         index = index * base + digit_of(t, owners[v] == 1, marks[v], meant_set, disturbance_set);
-        v += 1;
     }
     index
 }
@@ -205,13 +198,7 @@ fn digit_of(t: usize, lane: bool, mark: u8, meant: usize, disturbances: usize) -
 fn set_of(row: [bool; 3]) -> usize
     ensures { result ≡ set_number (λ w. get_or row w false) 3 }
 {
-    one_if(row[0]) + 2 * one_if(row[1]) + 4 * one_if(row[2])
-}
-
-fn one_if(b: bool) -> usize
-    ensures { result ≡ bit b }
-{
-    if b { 1 } else { 0 }
+    usize::from(row[0]) + 2 * usize::from(row[1]) + 4 * usize::from(row[2])
 }
 
 // From moves to a square
@@ -222,14 +209,12 @@ pub fn square_of(cost: u8, m: usize, costs: &[u8], froms: &[u16], tos: &[u16]) -
     ensures { SquareIs result (joined_below cost costs.now froms.now tos.now m) }
 {
     let mut square = [[false; 3]; 3];
-    let mut i = 0;
-    while i < m {
+    for i in 0..m {
         if costs[i] == cost {
             let v = froms[i] as usize;
             let w = tos[i] as usize;
             square[v][w] = true;
         }
-        i += 1;
     }
     square
 }

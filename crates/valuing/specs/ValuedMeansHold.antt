@@ -1,6 +1,6 @@
 -- The numbers that Valuing gives mean what document 01 says: read as values they are the rounds' columns, which the theory of the rounds
 -- shows to be the values and pairs, and the best choices of these values.
-use Rattle.std.specs.Prelude.{ℕ, ◌≡◌, refl, Bool, true, false, cond, ◌&&◌, List, length, leb}
+use Rattle.std.specs.Prelude.{ℕ, ◌≡◌, refl, Bool, true, false, cond, ◌&&◌, List, length, leb, Result, Ok, Err}
 use Rattle.std.proofs.Common.{arith, sym, ap, subst, subst₂, ◌∙◌}
 use Rattle.rows.specs.FirstLine.{first_line_of}
 use Rattle.rows.specs.Numbers.{row_value, Agree}
@@ -20,13 +20,11 @@ use Rattle.game.specs.FirstLine.{pair_count}
 use Rattle.chart.specs.Meaning.{arena_of}
 use Rattle.chart.specs.Examined.{examined}
 use Rattle.chart.specs.Accepted.{accepted-chartable}
-use Rattle.chart.specs.declared.Examination.{Examination}
-use Rattle.chart.specs.declared.Examination.TheVariants.{Accepted, Refused}
 use Rattle.refusal.specs.declared.Refusal.TheVariants.{Short}
 use Rattle.valuing.specs.Valuing.{valued, valued_by, ValuedIs}
 use Rattle.valuing.specs.Columns.{value-column, choice-column, step-column, first-line-column}
+use Rattle.refusal.specs.declared.Misdrawn.{Misdrawn}
 use Rattle.valuing.specs.ValuedMeans.{PairIs, ValuedMeans}
-use Rattle.valuing.specs.declared.Valued.TheVariants.{Rounds, Refused as Turned}
 
 -- The pairs: a value is finite exactly where the step is
 
@@ -70,25 +68,25 @@ module _ (a : Arena) (wf : WellFormed a) (f g : ℕ → Value) (same : Agree (si
 -- what an answer with rounds says: the chart was accepted, and the rounds are counted
 pub record Took (text : List ℕ) (k : ℕ) : Type 0 where
   pub chart : Chart
-  pub taken : examined text ≡ Accepted chart
+  pub taken : examined text ≡ Ok chart
   pub counted : k ≡ pair_count (round_value (arena_of text)) (round_step (arena_of text)) (size (arena_of text))
 
-pub valuing-took : (text : List ℕ) (values choices steps k : ℕ) → Rounds k ≡ valued text values choices steps → Took text k
+pub valuing-took : (text : List ℕ) (values choices steps k : ℕ) → Ok k ≡ valued text values choices steps → Took text k
 unfolding valued valued_by
 valuing-took text values choices steps k e = go (examined text) refl e
   where
     a : Arena
     a = arena_of text
 
-    both : (chart : Chart) → examined text ≡ Accepted chart → (b : Bool) → Rounds k ≡ cond b (Rounds (pair_count (round_value a) (round_step a) (size a))) (Turned Short) → Took text k
+    both : (chart : Chart) → examined text ≡ Ok chart → (b : Bool) → Ok k ≡ cond b (Ok (pair_count (round_value a) (round_step a) (size a))) (Err Short) → Took text k
     both chart t true e = record { chart = chart; taken = t; counted = cc }
     both chart t false e = let z : ◌≡◌ {A = ℕ} 0 1 = cc in absurd (omega arith)
 
-    go : (x : Examination) → examined text ≡ x → Rounds k ≡ valued_by x (arena_of text) values choices steps → Took text k
-    go (Refused r) t e = let z : ◌≡◌ {A = ℕ} 0 1 = cc in absurd (omega arith)
-    go (Accepted chart) t e = both chart t (leb chart.positions values && (leb chart.positions choices && leb chart.positions steps)) e
+    go : (x : Result Chart Misdrawn) → examined text ≡ x → Ok k ≡ valued_by x (arena_of text) values choices steps → Took text k
+    go (Err r) t e = let z : ◌≡◌ {A = ℕ} 0 1 = cc in absurd (omega arith)
+    go (Ok chart) t e = both chart t (leb chart.positions values && (leb chart.positions choices && leb chart.positions steps)) e
 
-pub valued-means : {text values values' choices choices' steps steps' : List ℕ} {k : ℕ} → ValuedIs text values values' choices choices' steps steps' (Rounds k)
+pub valued-means : {text values values' choices choices' steps steps' : List ℕ} {k : ℕ} → ValuedIs text values values' choices choices' steps steps' (Ok k)
     → ValuedMeans text values' choices' steps' k
 unfolding first_line_of
 valued-means {text} {values} {values'} {choices} {choices'} {steps} {steps'} {k} is =

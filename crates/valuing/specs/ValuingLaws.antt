@@ -1,5 +1,5 @@
 -- Valuing's rows: what solving, choosing and counting leave is the arena's plate.
-use Rattle.std.specs.Prelude.{ℕ, ◌≤◌, ◌<◌, true, false, ◌&&◌, List, length, leb}
+use Rattle.std.specs.Prelude.{ℕ, ◌≤◌, ◌<◌, true, false, ◌&&◌, List, length, leb, Ok, Err}
 use native.Mathlib.Omega.{arith}
 use Rattle.std.proofs.Math.Path.{◌≡◌, refl}
 use Rattle.std.proofs.Common.{ap, ◌∙◌}
@@ -17,7 +17,6 @@ use Rattle.chart.specs.Meaning.{arena_of}
 use Rattle.chart.specs.Examined.{examined}
 use Rattle.chart.specs.Accepted.{accepted-size}
 use Rattle.rows.specs.declared.Chart.{Chart}
-use Rattle.chart.specs.declared.Examination.TheVariants.{Accepted, Refused}
 use Rattle.refusal.specs.declared.Misdrawn.{Misdrawn}
 use Rattle.refusal.specs.declared.Refusal.{Refusal}
 use Rattle.refusal.specs.declared.Refusal.TheVariants.{Chart as OfChart, Short}
@@ -25,7 +24,6 @@ use Rattle.solver.specs.Solving.{Solved}
 use Rattle.choice.specs.Choose.{ValuesAre, Chosen}
 use Rattle.first_line.specs.Counting.{PairsFit}
 use Rattle.valuing.specs.Valuing.{PlateRows, RowsValued, valued, valued_by, ValuedIs}
-use Rattle.valuing.specs.declared.Valued.TheVariants.{Rounds, Refused as Turned}
 use Rattle.rows.specs.declared.FirstLine.{FirstLine}
 
 -- The rounds' numbers are small
@@ -99,29 +97,29 @@ module _ {n m : ℕ} {owners marks costs froms tos values values' steps steps' :
 
 module _ {text values choices steps : List ℕ} where
   -- a refusal leaves the rows
-  turned : (x : Refusal) → Turned x ≡ valued text (length values) (length choices) (length steps) → ValuedIs text values values choices choices steps steps (Turned x)
+  turned : (x : Refusal) → Err x ≡ valued text (length values) (length choices) (length steps) → ValuedIs text values values choices choices steps steps (Err x)
   turned x e = record { answer = e; taken = λ k z. let w : ◌≡◌ {A = ℕ} 0 1 = cc in absurd (omega arith); refused = λ y z. (refl, refl, refl) }
 
-  pub valued-refused : {r : Misdrawn} → examined text ≡ Refused r → ValuedIs text values values choices choices steps steps (Turned (OfChart r))
+  pub valued-refused : {r : Misdrawn} → examined text ≡ Err r → ValuedIs text values values choices choices steps steps (Err (OfChart r))
   unfolding valued valued_by
   valued-refused {r} e = turned (OfChart r) (rw e)
 
-  pub valued-short : {chart : Chart} → examined text ≡ Accepted chart
+  pub valued-short : {chart : Chart} → examined text ≡ Ok chart
       → (leb chart.positions (length values) && (leb chart.positions (length choices) && leb chart.positions (length steps))) ≡ false
-      → ValuedIs text values values choices choices steps steps (Turned Short)
+      → ValuedIs text values values choices choices steps steps (Err Short)
   unfolding valued valued_by
   valued-short e short = turned Short (rw (e, short))
 
-  pub valued-taken : {chart : Chart} {k : ℕ} {values' choices' steps' : List ℕ} → examined text ≡ Accepted chart
+  pub valued-taken : {chart : Chart} {k : ℕ} {values' choices' steps' : List ℕ} → examined text ≡ Ok chart
       → (leb chart.positions (length values) && (leb chart.positions (length choices) && leb chart.positions (length steps))) ≡ true
       → k ≡ pair_count (round_value (arena_of text)) (round_step (arena_of text)) chart.positions
       → PlateRows (arena_of text) chart.positions values values' choices choices' steps steps'
-      → ValuedIs text values values' choices choices' steps steps' (Rounds k)
+      → ValuedIs text values values' choices choices' steps steps' (Ok k)
   unfolding valued valued_by
   valued-taken {chart} {k} e room count rows =
       let n = accepted-size text chart e in
       record {
-        answer = rw (e, room, n) (ap Rounds count);
+        answer = rw (e, room, n) (ap Ok count);
         taken = λ j z. rw n rows;
         refused = λ x z. let w : ◌≡◌ {A = ℕ} 0 1 = cc in absurd (omega arith);
       }

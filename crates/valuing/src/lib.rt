@@ -6,29 +6,22 @@ ghost use Rattle.rows.specs.Rows.{ChartRows};
 ghost use Rattle.solver.specs.Solving.{Solved};
 ghost use Rattle.valuing.specs.Valuing.{RowsValued, ValuedIs};
 
-use chart::Examination;
 use choice::choose;
 use decode::load;
 use filed::solve_filed;
 use first_line::count_first_line;
-use refusal::{Misdrawn, Refusal};
+use refusal::Refusal;
 use rows::{Chart, FirstLine};
 use solver::solve;
 
-// What Valuing answers: the count of rounds, or a refusal: the chart's, or 10 where a row is shorter than the count of positions.
-#[derive(Clone, Copy)]
-pub enum Valued {
-    Rounds(u16),
-    Refused(Refusal),
-}
-
-// Values a chart into three lent rows. What lies past the last position's number stays, and on a refusal everything does.
+// Values a chart into three lent rows, and answers the count of rounds, or a refusal: the chart's, or 10 where a row is shorter than the count
+// of positions. What lies past the last position's number stays, and on a refusal everything does.
 pub fn value_chart(
     text: &[u8],
     values: &mut [u16],
     choices: &mut [u16],
     steps: &mut [u16],
-) -> Valued
+) -> Result<u16, Refusal>
     ensures { ValuedIs text.now values.old values.new choices.old choices.new steps.old steps.new result }
 {
     value_by(false, text, values, choices, steps)
@@ -40,7 +33,7 @@ pub fn value_plain(
     values: &mut [u16],
     choices: &mut [u16],
     steps: &mut [u16],
-) -> Valued
+) -> Result<u16, Refusal>
     ensures { ValuedIs text.now values.old values.new choices.old choices.new steps.old steps.new result }
 {
     value_by(true, text, values, choices, steps)
@@ -53,7 +46,7 @@ fn value_by(
     values: &mut [u16],
     choices: &mut [u16],
     steps: &mut [u16],
-) -> Valued
+) -> Result<u16, Refusal>
     ensures { ValuedIs text.now values.old values.new choices.old choices.new steps.old steps.new result }
 {
     let mut owners = [0u8; Chart::POSITIONS];
@@ -61,33 +54,29 @@ fn value_by(
     let mut costs = [0u8; Chart::MOVES];
     let mut froms = [0u16; Chart::MOVES];
     let mut tos = [0u16; Chart::MOVES];
-    match load(
+    let chart = load(
         text,
         &mut owners,
         &mut marks,
         &mut costs,
         &mut froms,
         &mut tos,
-    ) {
-        Examination::Refused(r) => Valued::Refused(Refusal::Chart(r)),
-        Examination::Accepted(chart) => {
-            let n = chart.positions;
-            let m = chart.moves;
-            if values.len() < n {
-                return Valued::Refused(Refusal::Short);
-            }
-            if choices.len() < n {
-                return Valued::Refused(Refusal::Short);
-            }
-            if steps.len() < n {
-                return Valued::Refused(Refusal::Short);
-            }
-            let s = value_rows(
-                plain, n, m, &owners, &marks, &costs, &froms, &tos, values, choices, steps,
-            );
-            Valued::Rounds(s.rounds)
-        }
+    )?;
+    let n = chart.positions;
+    let m = chart.moves;
+    if values.len() < n {
+        return Err(Refusal::Short);
     }
+    if choices.len() < n {
+        return Err(Refusal::Short);
+    }
+    if steps.len() < n {
+        return Err(Refusal::Short);
+    }
+    let s = value_rows(
+        plain, n, m, &owners, &marks, &costs, &froms, &tos, values, choices, steps,
+    );
+    Ok(s.rounds)
 }
 
 // Values decoded rows, by the plain solver or the filed one, and counts the first line's numbers. The rows hold a chart, as those that

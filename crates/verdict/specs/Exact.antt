@@ -1,6 +1,8 @@
 -- a plate's rows are sound exactly when they have the certificate and the header's numbers are those of the lines; else
 -- the answer is exactly the first fault, "positions from 0 up and in each the conditions in order".
-use Rattle.std.specs.Prelude.{ℕ, zero, suc, ◌<◌, ◌≡◌, refl, ◌⊎◌, ◌↔◌, Bool, not, ◌&&◌, eqb}
+use Rattle.std.specs.Prelude.{ℕ, zero, suc, ◌<◌, ◌≡◌, refl, ◌⊎◌, ◌↔◌, Bool, not, ◌&&◌, eqb, ⊤, Result, Ok, Err}
+use Rattle.verdict.specs.declared.FoundFault.{FoundFault}
+use Rattle.verdict.specs.Verdict.{fault_of}
 use Rattle.std.proofs.Common.{arith, sym, ◌∙◌, inl, inr, eqb→eq, eq-eqb}
 use Rattle.std.proofs.Math.Path.{subst}
 use Rattle.std.proofs.Math.Logic.{⊎_elim}
@@ -17,8 +19,6 @@ use Rattle.game.specs.FirstLine.{pair_count, highest, ever_count}
 use Rattle.rows.specs.declared.FirstLine.{FirstLine}
 use Rattle.verdict.specs.Verdict.{FirstFaultIs, at_header, at_position, first_fault, header_right, header_verdict, verdict_of}
 use Rattle.verdict.specs.VerdictLaws.{fault-or-none, first-fault, no-fault}
-use Rattle.verdict.specs.declared.Verdict.{Verdict}
-use Rattle.verdict.specs.declared.Verdict.TheVariants.{Sound, Fault}
 
 -- the test of the header is its record
 pub header-test : (n : ℕ) (value step : ℕ → Value) (h : FirstLine) → T (header_right n value step h) ↔ FirstLineIs n value step h
@@ -48,25 +48,25 @@ module _ (a : Arena) (value choice step : ℕ → Value) (h : FirstLine) where
   abbrev fault : ℕ → ℕ
   fault = fault_at a value choice step
 
-  abbrev end : Verdict
+  abbrev end : Result ⊤ FoundFault
   end = header_verdict (size a) value step h
 
-  header-sound : FirstLineIs (size a) value step h → end ≡ Sound
+  header-sound : FirstLineIs (size a) value step h → end ≡ Ok tt
   unfolding header_verdict
   header-sound is = rw (is_true (header_right (size a) value step h) ((header-test (size a) value step h).1 is))
 
-  header-faulty : (FirstLineIs (size a) value step h → ⊥) → end ≡ Fault (size a) 6
+  header-faulty : (FirstLineIs (size a) value step h → ⊥) → end ≡ Err (fault_of (size a) 6)
   unfolding header_verdict
   header-faulty wrong = go (passes-or-fails (header_right (size a) value step h))
     where
-      go : T (header_right (size a) value step h) ⊎ T (not (header_right (size a) value step h)) → end ≡ Fault (size a) 6
+      go : T (header_right (size a) value step h) ⊎ T (not (header_right (size a) value step h)) → end ≡ Err (fault_of (size a) 6)
       go (inl t) = absurd (wrong ((header-test (size a) value step h).0 t))
       go (inr f) = rw (is_false (header_right (size a) value step h) f)
 
   -- the answer is one of these
-  Answer : Verdict → Type 0
-  Answer Sound = Certificate a value choice step × FirstLineIs (size a) value step h
-  Answer (Fault v c) = FirstFaultIs a value choice step h v c
+  Answer : Result ⊤ FoundFault → Type 0
+  Answer (Ok _) = Certificate a value choice step × FirstLineIs (size a) value step h
+  Answer (Err f) = FirstFaultIs a value choice step h f.position f.condition
 
   certified : ((u : ℕ) → u < size a → fault u ≡ 0) → Certificate a value choice step
   certified clean u l = (no-fault-exactly a value choice step u).0 (clean u l)
@@ -96,7 +96,7 @@ module _ (a : Arena) (value choice step : ℕ → Value) (h : FirstLine) where
               (at_position inside (λ u l. (no-fault-exactly a value choice step u).0 (clean u l)) ((fault-exactly a value choice step v (suc c)).0 e))
 
   -- accepted exactly when the certificate holds and the header's numbers are those of the lines
-  pub sound-exactly : (verdict_of a value choice step h ≡ Sound) ↔ (Certificate a value choice step × FirstLineIs (size a) value step h)
+  pub sound-exactly : (verdict_of a value choice step h ≡ Ok tt) ↔ (Certificate a value choice step × FirstLineIs (size a) value step h)
   unfolding verdict_of Answer
   sound-exactly = (
     λ e. subst Answer e answered,
@@ -104,11 +104,11 @@ module _ (a : Arena) (value choice step : ℕ → Value) (h : FirstLine) where
   )
 
   -- else exactly the first fault
-  pub first-fault-exactly : (v c : ℕ) → (verdict_of a value choice step h ≡ Fault v c) ↔ FirstFaultIs a value choice step h v c
+  pub first-fault-exactly : (v c : ℕ) → (verdict_of a value choice step h ≡ Err (fault_of v c)) ↔ FirstFaultIs a value choice step h v c
   unfolding verdict_of Answer
   first-fault-exactly v c = (λ e. subst Answer e answered, from)
     where
-      from : {v c : ℕ} → FirstFaultIs a value choice step h v c → first_fault fault end (size a) ≡ Fault v c
+      from : {v c : ℕ} → FirstFaultIs a value choice step h v c → first_fault fault end (size a) ≡ Err (fault_of v c)
       from (at_position {v} {c} inside clean first) =
           first-fault fault end (size a) v (suc c) inside (λ u l. (no-fault-exactly a value choice step u).1 (clean u l)) ((fault-exactly a value choice step v (suc c)).1 first) (λ z. omega arith)
       from (at_header certificate wrong) =

@@ -1,6 +1,7 @@
 -- Checking's answer over a plate's rows (document 01, "Checking"): the first fault, "positions from 0 up and in each the
 -- conditions in order, as position and condition".
-use Rattle.std.specs.Prelude.{ℕ, suc, ◌<◌, Bool, cond, ◌&&◌, eqb}
+use Rattle.std.specs.Prelude.{ℕ, suc, ◌<◌, Bool, cond, ◌&&◌, eqb, ⊤, Result, Ok, Err}
+use Rattle.verdict.specs.declared.FoundFault.{FoundFault}
 use Rattle.search.specs.First.{first_from}
 use Rattle.rows.specs.Numbers.{number_of}
 use Rattle.rows.specs.FirstLine.{FirstLineIs}
@@ -13,12 +14,14 @@ use Rattle.game.specs.FirstFault.{FirstFault}
 use Rattle.game.proofs.Optimal.{RightValues, WorthsAre}
 use Rattle.game.specs.FirstLine.{pair_count, highest, ever_count}
 use Rattle.rows.specs.declared.FirstLine.{FirstLine}
-use Rattle.verdict.specs.declared.Verdict.{Verdict}
-use Rattle.verdict.specs.declared.Verdict.TheVariants.{Sound, Fault}
+
+-- the fault at v under condition c
+abbrev pub fault_of : ℕ → ℕ → FoundFault
+fault_of v c = record { position = v; condition = c }
 
 -- the first of n positions that has a fault, and which; `end` if none has
-unfoldable pub first_fault : (ℕ → ℕ) → Verdict → ℕ → Verdict
-first_fault fault end n = first_from (λ v. eqb (fault v) 0) (λ v. Fault v (fault v)) end n 0
+unfoldable pub first_fault : (ℕ → ℕ) → Result ⊤ FoundFault → ℕ → Result ⊤ FoundFault
+first_fault fault end n = first_from (λ v. eqb (fault v) 0) (λ v. Err (fault_of v (fault v))) end n 0
 
 -- "The first line's numbers are those of the plate's lines", which is `FirstLineIs`, as a test
 unfoldable pub header_right : ℕ → (value step : ℕ → Value) → FirstLine → Bool
@@ -26,11 +29,11 @@ header_right n value step h =
     eqb h.rounds (pair_count value step n) && eqb h.highest (number_of (highest value n)) && eqb h.evers (ever_count value n)
 
 -- 6, "answered with position n"
-unfoldable pub header_verdict : ℕ → (value step : ℕ → Value) → FirstLine → Verdict
-header_verdict n value step h = cond (header_right n value step h) Sound (Fault n 6)
+unfoldable pub header_verdict : ℕ → (value step : ℕ → Value) → FirstLine → Result ⊤ FoundFault
+header_verdict n value step h = cond (header_right n value step h) (Ok tt) (Err (fault_of n 6))
 
 -- the whole answer
-unfoldable pub verdict_of : (a : Arena) (value choice step : ℕ → Value) → FirstLine → Verdict
+unfoldable pub verdict_of : (a : Arena) (value choice step : ℕ → Value) → FirstLine → Result ⊤ FoundFault
 verdict_of a value choice step h = first_fault (fault_at a value choice step) (header_verdict (size a) value step h) (size a)
 
 -- The same as a statement: the first fault is at position v, of condition c, 1 to 5; or of condition 6, with position n

@@ -2,6 +2,7 @@
 #![tactic(auto)]
 
 ghost use Rattle.std.specs.Prelude.{◌≡◌, ◌≤◌, ◌<◌, length, get_or};
+ghost use Rattle.refusal.specs.declared.Refusal.TheVariants.{Fault};
 ghost use Rattle.rows.specs.Rows.{Ascending, ChartRows, Within};
 ghost use Rattle.rows.specs.Numbers.{row_value};
 ghost use Rattle.first_line.specs.Counting.{PairsFit};
@@ -12,13 +13,23 @@ ghost use Rattle.verdict.specs.RowsChecked.{RowsChecked};
 
 use conditions::{Line, Seen, Target, after_moves, before_moves, see};
 use first_line::count_first_line;
+use refusal::Refusal;
 use rows::{Chart, FirstLine};
 
-// No fault, or the first one's position and condition.
-#[derive(Clone, Copy)]
-pub enum Verdict {
-    Sound,
-    Fault(usize, u8),
+// The position of a fault, past all positions for the first line's numbers, and the condition that fails there.
+#[derive(Clone, Copy, Debug, PartialEq, Eq)]
+pub struct FoundFault {
+    pub position: usize,
+    pub condition: u8,
+}
+
+// A fault is refused under 14.
+impl From<FoundFault> for Refusal {
+    ghost from_gives = { λ f r. r ≡ Fault f.position f.condition };
+
+    fn from(fault: FoundFault) -> Refusal {
+        Refusal::Fault(fault.position, fault.condition)
+    }
 }
 
 // The first fault of a plate's rows and its first line's numbers. The rows hold a chart, as those that `load` fills do, with the moves
@@ -35,22 +46,25 @@ pub fn check_rows(
     choices: &[u16],
     steps: &[u16],
     header: FirstLine,
-) -> Verdict
+) -> Result<(), FoundFault>
     requires { ChartRows n m owners.now marks.now costs.now froms.now tos.now × Ascending m froms.now × Formed n values.now steps.now × (n ≤ length values.now) × (n ≤ length choices.now) × (n ≤ length steps.now) }
     ensures { RowsChecked n m (sheet owners.now marks.now costs.now froms.now tos.now values.now choices.now steps.now) header result }
 {
     let mut ranks = [0u32; Chart::POSITIONS];
     rank_rows(n, values, steps, &mut ranks);
-    match first_fault(
+    first_fault(
         n, m, owners, marks, costs, froms, tos, values, choices, steps, &ranks,
-    ) {
-        Verdict::Fault(v, condition) => Verdict::Fault(v, condition),
-        Verdict::Sound => header_fault(n, values, steps, header),
-    }
+    )?;
+    header_fault(n, values, steps, header)
 }
 
 // Condition 6.
-fn header_fault(n: usize, values: &[u16], steps: &[u16], header: FirstLine) -> Verdict
+fn header_fault(
+    n: usize,
+    values: &[u16],
+    steps: &[u16],
+    header: FirstLine,
+) -> Result<(), FoundFault>
     requires { (n ≤ 512) × (n ≤ length values.now) × (n ≤ length steps.now) × PairsFit n values.now steps.now }
     ensures { result ≡ header_verdict n (row_value values.now) (row_value steps.now) header }
 {
@@ -59,9 +73,12 @@ fn header_fault(n: usize, values: &[u16], steps: &[u16], header: FirstLine) -> V
     let highest = header.highest == counted.highest;
     let evers = header.evers == counted.evers;
     if rounds & highest & evers {
-        Verdict::Sound
+        Ok(())
     } else {
-        Verdict::Fault(n, 6)
+        Err(FoundFault {
+            position: n,
+            condition: 6,
+        })
     }
 }
 
@@ -91,10 +108,8 @@ fn rank_rows(n: usize, values: &[u16], steps: &[u16], ranks: &mut [u32])
     requires { (n ≤ length values.now) × (n ≤ length steps.now) × (n ≤ length ranks.old) }
     ensures { RowsRanked n values.now steps.now ranks.old ranks.new }
 {
-    let mut v: usize = 0;
-    while v < n {
+    for v in 0..n {
         ranks[v] = values[v] as u32 * 65536 + steps[v] as u32;
-        v += 1;
     }
 }
 
@@ -127,20 +142,23 @@ fn first_fault(
     choices: &[u16],
     steps: &[u16],
     ranks: &[u32],
-) -> Verdict
+) -> Result<(), FoundFault>
     requires { Within n m costs.now froms.now tos.now × Ascending m froms.now × Sized n owners.now marks.now values.now choices.now steps.now × Ranked n values.now steps.now ranks.now }
-    ensures { result ≡ first_fault (row_fault m (sheet owners.now marks.now costs.now froms.now tos.now values.now choices.now steps.now)) Verdict.Sound n }
+    ensures { result ≡ first_fault (row_fault m (sheet owners.now marks.now costs.now froms.now tos.now values.now choices.now steps.now)) (Ok tt) n }
 {
     let mut v: usize = 0;
     let mut i: usize = 0;
     'positions: loop {
         if n <= v {
-            break 'positions Verdict::Sound;
+            break 'positions Ok(());
         }
         let line = line_at(v, owners, marks, values, choices, steps);
         let early = before_moves(line);
         if early != 0 {
-            break 'positions Verdict::Fault(v, early);
+            break 'positions Err(FoundFault {
+                position: v,
+                condition: early,
+            });
         }
         let mut seen = Seen::none();
         while i < m {
@@ -149,13 +167,19 @@ fn first_fault(
             }
             seen = see(seen, line, target_at(i, costs, tos, ranks));
             if (line.owner != 0) & seen.low {
-                break 'positions Verdict::Fault(v, 4);
+                break 'positions Err(FoundFault {
+                    position: v,
+                    condition: 4,
+                });
             }
             i += 1;
         }
         let late = after_moves(line, seen);
         if late != 0 {
-            break 'positions Verdict::Fault(v, late);
+            break 'positions Err(FoundFault {
+                position: v,
+                condition: late,
+            });
         }
         v += 1;
     }

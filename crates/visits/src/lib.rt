@@ -38,12 +38,10 @@ pub fn visit_round(
 {
     let end = lists.tail;
     let mut grown = lists;
-    let mut at = head;
-    while at < end {
+    for at in head..end {
         grown = visit(
             at, k, s, grown, starts, entries, needs, values, steps, order, due, later,
         );
-        at += 1;
     }
     grown
 }
@@ -69,8 +67,7 @@ fn visit(
     let to = order[head] as usize;
     let end = starts[to + 1] as usize;
     let mut grown = lists;
-    let mut j = starts[to] as usize;
-    while j < end {
+    for j in starts[to] as usize..end {
         grown = look(
             entries[j] as usize,
             k,
@@ -83,7 +80,6 @@ fn visit(
             due,
             later,
         );
-        j += 1;
     }
     grown
 }

@@ -1,6 +1,6 @@
 -- From words to an accepted text: a line with the words of two numbers reads as them, so it stands; ranks that rise are moves that rise; and
 -- where each position has the kinds of moves that it needs and may have, a chart whose lines stand is good.
-use Rattle.std.specs.Prelude.{ℕ, ◌+◌, ◌-◌, ◌*◌, ◌/◌, ◌%◌, ◌≤◌, ◌<◌, ◌≡◌, Bool, not, List, [], ◌∷◌, length, get_or, set, ltb, eqb}
+use Rattle.std.specs.Prelude.{ℕ, ◌+◌, ◌-◌, ◌*◌, ◌/◌, ◌%◌, ◌≤◌, ◌<◌, ◌≡◌, Bool, not, List, [], ◌∷◌, length, get_or, set, ltb, eqb, Ok}
 use native.Mathlib.Omega.{arith}
 use Rattle.std.proofs.Math.Decide.{dec_le, ℕ_discrete}
 use Rattle.std.proofs.Math.Numerals.{add-one}
@@ -27,7 +27,6 @@ use Rattle.chart.specs.Accepted.{cost-small}
 use Rattle.chart.specs.Good.{GoodPosition, GoodMove, header-form}
 use Rattle.chart.specs.Taken.{good-accepted}
 use Rattle.chart.specs.Lines.{Reads, number-again, reads-formed}
-use Rattle.chart.specs.declared.Examination.TheVariants.{Accepted}
 use Rattle.walk.specs.Decoded.{MoveRows}
 use Rattle.walk.specs.Walked.{LineWords, opening_of, middle_of, closing_of, move_opening, letter_of, mark_word, LinesSpelt, Numbers, Tables, MoveStands, Kinds, KindsAllowed, MovesStand, PositionsPassed, Passed}
 
@@ -420,7 +419,7 @@ pub record HeaderFits (text : List ℕ) (chart : Chart) : Type 0 where
   pub moves : chart.moves ≤ 4096
   pub lines : length text ≡ (1 + chart.positions + chart.moves) * 12
 
-pub header-fits : (text : List ℕ) (chart : Chart) → header_of text ≡ Accepted chart → HeaderFits text chart
+pub header-fits : (text : List ℕ) (chart : Chart) → header_of text ≡ Ok chart → HeaderFits text chart
 header-fits text chart e =
     let w = header-accepts text chart e in
     subst (λ (k : Chart). HeaderFits text k) (sym w.1) (record { some = w.0.some-position; positions = w.0.positions; moves = w.0.moves; lines = w.0.lines })
@@ -443,7 +442,7 @@ counts-pass text owners₀ owners marks₀ marks costs₀ costs froms₀ froms t
       moves = m.rows;
     }
 
-pub lines-pass : (text : List ℕ) (chart : Chart) (owners₀ owners marks₀ marks costs₀ costs froms₀ froms tos₀ tos : List ℕ) → header_of text ≡ Accepted chart →
+pub lines-pass : (text : List ℕ) (chart : Chart) (owners₀ owners marks₀ marks costs₀ costs froms₀ froms tos₀ tos : List ℕ) → header_of text ≡ Ok chart →
     PositionsPassed text chart.positions owners₀ owners marks₀ marks → MovesPassed text chart.positions chart.moves costs₀ costs froms₀ froms tos₀ tos →
     Passed text chart owners₀ owners marks₀ marks costs₀ costs froms₀ froms tos₀ tos
 lines-pass text chart owners₀ owners marks₀ marks costs₀ costs froms₀ froms tos₀ tos e =

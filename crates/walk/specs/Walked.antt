@@ -1,6 +1,6 @@
 -- What a walk over a text's lines tells where it passes: that the text is accepted, and that the rows are those of its lines. Whether it passes
 -- or stops, what lies past the counts in the rows stays.
-use Rattle.std.specs.Prelude.{ℕ, ◌+◌, ◌-◌, ◌*◌, ◌/◌, ◌%◌, ◌≤◌, ◌<◌, ◌≡◌, Bool, true, cond, List, length, get_or, eqb}
+use Rattle.std.specs.Prelude.{ℕ, ◌+◌, ◌-◌, ◌*◌, ◌/◌, ◌%◌, ◌≤◌, ◌<◌, ◌≡◌, Bool, true, cond, List, length, get_or, eqb, Ok}
 use Rattle.rows.specs.Rows.{RowIs, Filled, Kept}
 use Rattle.chart.specs.Text.{letter_at, first_at, second_at, end_at, from_at, to_at}
 use Rattle.chart.specs.Meaning.{cost_of}
@@ -8,7 +8,6 @@ use Rattle.chart.specs.Refusals.{MoveLetter}
 use Rattle.chart.specs.Examined.{rises, meant_in, examined}
 use Rattle.chart.specs.Good.{Formed, GoodPosition}
 use Rattle.rows.specs.declared.Chart.{Chart}
-use Rattle.chart.specs.declared.Examination.TheVariants.{Accepted}
 use Rattle.spelling.specs.Words.{WordIs, spelt}
 use Rattle.walk.specs.Decoded.{PositionRows, MoveRows}
 
@@ -106,7 +105,7 @@ pub record MovesWalked (text : List ℕ) (n m : ℕ) (passed : Bool) (kinds₀ k
 
 -- the text is accepted, and its lines are in the rows
 pub record Passed (text : List ℕ) (chart : Chart) (owners₀ owners marks₀ marks costs₀ costs froms₀ froms tos₀ tos : List ℕ) : Type 0 where
-  pub accepted : examined text ≡ Accepted chart
+  pub accepted : examined text ≡ Ok chart
   pub positions : PositionRows text chart.positions owners₀ owners marks₀ marks
   pub moves : MoveRows text (chart.positions + 1) chart.moves costs₀ costs froms₀ froms tos₀ tos
 

@@ -8,7 +8,6 @@ ghost use Rattle.chart.specs.Meaning.{owner_of};
 ghost use Rattle.chart.specs.Examined.{header_of};
 ghost use Rattle.walk.specs.Walked.{letter_of, mark_word, move_opening, middle_of, LineWords, LinesSpelt, Tables, Numbers, PositionsWalked, MovesWalked, KindsAllowed, WalkIs};
 
-use chart::Examination;
 use rows::Chart;
 use spelling::{spell, word};
 
@@ -29,7 +28,7 @@ pub fn walk(
     froms: &mut [u16],
     tos: &mut [u16],
 ) -> bool
-    requires text_value { header_of text.now ≡ Examination.Accepted chart }
+    requires text_value { header_of text.now ≡ Ok chart }
     requires in_bounds { (512 ≤ length owners.old) × (512 ≤ length marks.old) }
     requires in_bounds_2 { (4096 ≤ length costs.old) × (4096 ≤ length froms.old) × (4096 ≤ length tos.old) }
     ensures { WalkIs text.now chart result owners.old owners.new marks.old marks.new costs.old costs.new froms.old froms.new tos.old tos.new }
@@ -60,15 +59,13 @@ fn spell_lines(n: usize, openings: &mut [u32], middles: &mut [u32], closings: &m
     requires { (n ≤ 512) × (2 * n ≤ length openings.old) × (n ≤ length middles.old) × (n ≤ length closings.old) }
     ensures { LinesSpelt n openings.old openings.new middles.old middles.new closings.old closings.new }
 {
-    let mut v: usize = 0;
-    while v < n {
+    for v in 0..n {
         let spelling = spell(v);
         let opening = spelling % 256 * 0x0100_0000 + 0x0020_204d;
         openings[2 * v] = opening;
         openings[2 * v + 1] = opening - 9;
         middles[v] = spelling / 256 + 0x2020_0000;
         closings[v] = spelling + 0x0a00_0000;
-        v += 1;
     }
 }
 
@@ -88,8 +85,7 @@ fn walk_positions(
     requires n_in_bounds { (n ≤ length owners.old) × (n ≤ length marks.old) }
     ensures { PositionsWalked text.now n result owners.old owners.new marks.old marks.new }
 {
-    let mut v: usize = 0;
-    while v < n {
+    for v in 0..n {
         let at = (v + 1) * Chart::LINE;
         let owner = owner(text[at]);
         let last = text[at + 10];
@@ -99,7 +95,6 @@ fn walk_positions(
         }
         owners[v] = owner;
         marks[v] = last % 2;
-        v += 1;
     }
     true
 }
@@ -129,10 +124,8 @@ fn file_numbers(n: usize, closings: &[u32], numbers: &mut [u16])
     requires { (n ≤ 512) × (n ≤ length closings.now) × Numbers numbers.old 1 × (1 ≤ n) }
     ensures { Numbers numbers.new n }
 {
-    let mut v: usize = 0;
-    while v < n {
+    for v in 0..n {
         numbers[slot(closings[v])] = v as u16;
-        v += 1;
     }
 }
 
@@ -165,8 +158,7 @@ fn walk_moves(
     ensures { MovesWalked text.now n m result kinds.old kinds.new costs.old costs.new froms.old froms.new tos.old tos.new }
 {
     let mut lowest: usize = 0;
-    let mut i: usize = 0;
-    while i < m {
+    for i in 0..m {
         let at = (n + 1 + i) * Chart::LINE;
         let from = number_at(text, at + 3, numbers);
         let to = number_at(text, at + 8, numbers);
@@ -184,7 +176,6 @@ fn walk_moves(
         tos[i] = to as u16;
         kinds[kind] = 1;
         lowest = rank + 1;
-        i += 1;
     }
     true
 }
@@ -225,8 +216,7 @@ fn kinds_allowed(owners: &[u8], n: usize, kinds: &[u8]) -> bool
     requires { (n ≤ 512) × (n ≤ length owners.now) × (2 * n ≤ length kinds.now) }
     ensures { result ≡ true → KindsAllowed owners.now n kinds.now }
 {
-    let mut v: usize = 0;
-    while v < n {
+    for v in 0..n {
         let owner = owners[v] as usize;
         if kinds[2 * v] as usize + owner / 2 != 1 {
             return false;
@@ -234,7 +224,6 @@ fn kinds_allowed(owners: &[u8], n: usize, kinds: &[u8]) -> bool
         if kinds[2 * v + 1] as usize + owner % 2 == 2 {
             return false;
         }
-        v += 1;
     }
     true
 }

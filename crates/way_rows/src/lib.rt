@@ -41,10 +41,8 @@ pub fn straighten(
     requires { Within n m costs.now froms.now tos.now × (n ≤ length worths.now) × (m ≤ length straight.old) }
     ensures { Filled straight.old straight.new m (λ i. straight_to worths.now costs.now froms.now tos.now i) }
 {
-    let mut i: usize = 0;
-    while i < m {
+    for i in 0..m {
         straight[i] = straight_to(i, worths, costs, froms, tos);
-        i += 1;
     }
 }
 
@@ -71,10 +69,8 @@ pub fn point_on(n: usize, m: usize, froms: &[u16], tos: &[u16], left: &[u16], ne
     ensures { Pointed n froms.now tos.now left.now m next.new }
 {
     clear(n, next);
-    let mut i: usize = 0;
-    while i < m {
+    for i in 0..m {
         point_by(i, froms, tos, left, next);
-        i += 1;
     }
 }
 
@@ -97,13 +93,11 @@ pub fn follow(
     led[0] = 0;
     let moves = left[start] as usize;
     let mut here = start;
-    let mut i: usize = 0;
-    while i < moves {
+    for i in 0..moves {
         let there = next[here] as usize;
         positions[i + 1] = next[here];
         led[i + 1] = worths[here] - worths[there];
         here = there;
-        i += 1;
     }
     moves + 1
 }

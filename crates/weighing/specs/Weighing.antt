@@ -1,6 +1,6 @@
 -- Weighing (document 01, "The jobs"): "a chart and a row of choices (its first n numbers) into a row of worths: at each
 -- position the worth .. of the positional controller that makes these choices", and refusals 1 to 9 and 17, 10 and 12.
-use Rattle.std.specs.Prelude.{ℕ, ◌<◌, ◌≡◌, Bool, true, false, cond, not, ◌&&◌, List, length, get_or, leb}
+use Rattle.std.specs.Prelude.{ℕ, ◌<◌, ◌≡◌, Bool, true, false, cond, not, ◌&&◌, List, length, get_or, leb, ⊤, Result, Ok, Err}
 use Rattle.rows.specs.Rows.{RowIs, Filled, Stays, RowsOf}
 use Rattle.rows.specs.Numbers.{number_of, value_of, row_value}
 use Rattle.search.specs.Below.{some_below}
@@ -13,12 +13,10 @@ use Rattle.game.specs.Table.{round_value}
 use Rattle.game.specs.Fault.{legal_as}
 use Rattle.chart.specs.Meaning.{arena_of}
 use Rattle.chart.specs.Examined.{examined}
-use Rattle.chart.specs.declared.Examination.{Examination}
-use Rattle.chart.specs.declared.Examination.TheVariants.{Accepted, Refused}
-use Rattle.weighing.specs.declared.Weighed.{Weighed}
 use Rattle.refusal.specs.declared.Refusal.{Refusal}
+use Rattle.rows.specs.declared.Chart.{Chart}
+use Rattle.refusal.specs.declared.Misdrawn.{Misdrawn}
 use Rattle.refusal.specs.declared.Refusal.TheVariants.{Chart as OfChart, Short, Choice}
-use Rattle.weighing.specs.declared.Weighed.TheVariants.{Done, Refused as Turned}
 
 -- each choice of the first n positions is a meant target at O, 65,535 at L and R: the test of condition 3, which looks at no
 -- value and no step
@@ -58,18 +56,18 @@ pub record RowsWeighed (n m : ℕ) (owners marks costs froms tos choices worths 
   pub refused : r ≡ false → worths' ≡ worths
 
 -- the answer to a chart, a row of choices, and a row of worths of this length
-unfoldable pub weighed_by : Examination → Arena → List ℕ → ℕ → Weighed
-weighed_by (Refused r) a choices worths = Turned (OfChart r)
-weighed_by (Accepted chart) a choices worths =
+unfoldable pub weighed_by : Result Chart Misdrawn → Arena → List ℕ → ℕ → Result ⊤ Refusal
+weighed_by (Err r) a choices worths = Err (OfChart r)
+weighed_by (Ok chart) a choices worths =
     cond (leb chart.positions (length choices) && leb chart.positions worths)
-    (cond (legal_row a (row_value choices) (size a)) Done (Turned Choice))
-    (Turned Short)
+    (cond (legal_row a (row_value choices) (size a)) (Ok tt) (Err Choice))
+    (Err Short)
 
-unfoldable pub weighed : List ℕ → List ℕ → ℕ → Weighed
+unfoldable pub weighed : List ℕ → List ℕ → ℕ → Result ⊤ Refusal
 weighed text choices worths = weighed_by (examined text) (arena_of text) choices worths
 
 -- the answer, and every lent number afterwards
-pub record WeighedIs (text choices worths worths' : List ℕ) (r : Weighed) : Type 0 where
+pub record WeighedIs (text choices worths worths' : List ℕ) (r : Result ⊤ Refusal) : Type 0 where
   pub answer : r ≡ weighed text choices (length worths)
-  pub taken : r ≡ Done → WorthRow (arena_of text) (size (arena_of text)) choices worths worths'
-  pub refused : (x : Refusal) → r ≡ Turned x → worths' ≡ worths
+  pub taken : r ≡ Ok tt → WorthRow (arena_of text) (size (arena_of text)) choices worths worths'
+  pub refused : (x : Refusal) → r ≡ Err x → worths' ≡ worths

@@ -1,6 +1,6 @@
 -- Weighing over rows is weighing in the arena: the copied moves are the restricted arena's, whose values are the worths
 -- (game: `restricted-value-is-worth`), and the code's test of the choices is condition 3.
-use Rattle.std.specs.Prelude.{ℕ, ◌≤◌, ◌<◌, cond, ◌&&◌, List, length, get_or, T, eqb, leb}
+use Rattle.std.specs.Prelude.{ℕ, ◌≤◌, ◌<◌, cond, ◌&&◌, List, length, get_or, T, eqb, leb, Ok, Err}
 use Rattle.std.proofs.Common.{arith, subst, ◌∙◌}
 use Rattle.std.proofs.Math.Path.{◌≡◌, refl, sym, ap}
 use Rattle.std.proofs.Math.Bool.{Bool, true, false, not, and-true, and-false}
@@ -29,13 +29,11 @@ use Rattle.rows.specs.declared.Chart.{Chart}
 use Rattle.refusal.specs.declared.Misdrawn.{Misdrawn}
 use Rattle.refusal.specs.declared.Refusal.{Refusal}
 use Rattle.refusal.specs.declared.Refusal.TheVariants.{Chart as OfChart, Short, Choice}
-use Rattle.chart.specs.declared.Examination.TheVariants.{Accepted, Refused}
 use Rattle.solver.specs.Solving.{Solved}
 use Rattle.valuing.specs.ValuingLaws.{round-value-fits}
 use Rattle.restriction.specs.Restriction.{is_chosen, is_legal, move_stays, Copied}
 use Rattle.restriction.specs.RestrictionLaws.{copied-fewer}
 use Rattle.weighing.specs.Weighing.{legal_row, WorthRow, RestrictedSolved, RowsWeighed, weighed, weighed_by, WeighedIs}
-use Rattle.weighing.specs.declared.Weighed.TheVariants.{Done, Refused as Turned}
 
 -- The moves that stay
 
@@ -217,23 +215,23 @@ restricted-solved {n} {m} {count} {owners} {marks} {costs} {froms} {tos} {choice
 
 module _ {text choices worths : List ℕ} where
   -- a refusal leaves the row
-  turned : {worths' : List ℕ} (x : Refusal) → Turned x ≡ weighed text choices (length worths) → worths' ≡ worths → WeighedIs text choices worths worths' (Turned x)
+  turned : {worths' : List ℕ} (x : Refusal) → Err x ≡ weighed text choices (length worths) → worths' ≡ worths → WeighedIs text choices worths worths' (Err x)
   turned x e same = record { answer = e; taken = λ z. let w : ◌≡◌ {A = ℕ} 0 1 = cc in absurd (omega arith); refused = λ y z. same }
 
-  pub weighed-refused : {r : Misdrawn} → examined text ≡ Refused r → WeighedIs text choices worths worths (Turned (OfChart r))
+  pub weighed-refused : {r : Misdrawn} → examined text ≡ Err r → WeighedIs text choices worths worths (Err (OfChart r))
   unfolding weighed weighed_by
   weighed-refused {r} e = turned (OfChart r) (rw e) refl
 
-  pub weighed-short : {chart : Chart} → examined text ≡ Accepted chart → (leb chart.positions (length choices) && leb chart.positions (length worths)) ≡ false
-      → WeighedIs text choices worths worths (Turned Short)
+  pub weighed-short : {chart : Chart} → examined text ≡ Ok chart → (leb chart.positions (length choices) && leb chart.positions (length worths)) ≡ false
+      → WeighedIs text choices worths worths (Err Short)
   unfolding weighed weighed_by
   weighed-short e short = turned Short (rw (e, short)) refl
 
-  module _ {chart : Chart} {m : ℕ} {owners marks costs froms tos worths' : List ℕ} {r : Bool} (e : examined text ≡ Accepted chart)
+  module _ {chart : Chart} {m : ℕ} {owners marks costs froms tos worths' : List ℕ} {r : Bool} (e : examined text ≡ Ok chart)
       (room : (leb chart.positions (length choices) && leb chart.positions (length worths)) ≡ true)
       (d : RowsOf (arena_of text) chart.positions m owners marks costs froms tos)
       (weighing : RowsWeighed chart.positions m owners marks costs froms tos choices worths worths' r) where
-    pub weighed-taken : r ≡ true → WeighedIs text choices worths worths' Done
+    pub weighed-taken : r ≡ true → WeighedIs text choices worths worths' (Ok tt)
     unfolding weighed weighed_by
     weighed-taken fact =
         let n = accepted-size text chart e in
@@ -244,7 +242,7 @@ module _ {text choices worths : List ℕ} where
           refused = λ x z. let w : ◌≡◌ {A = ℕ} 0 1 = cc in absurd (omega arith);
         }
 
-    pub weighed-unfair : r ≡ false → WeighedIs text choices worths worths' (Turned Choice)
+    pub weighed-unfair : r ≡ false → WeighedIs text choices worths worths' (Err Choice)
     unfolding weighed weighed_by
     weighed-unfair fact =
         let n = accepted-size text chart e in

@@ -8,23 +8,15 @@ ghost use Rattle.rows.specs.Numbers.{row_value};
 ghost use Rattle.rows.specs.Rows.{ChartRows, RowsOf};
 ghost use Rattle.weighing.specs.Weighing.{LegalWeighed, RestrictedSolved, RowsWeighed, WeighedIs};
 
-use chart::Examination;
 use decode::load;
 use filed::{FEW, solve_filed};
 use refusal::Refusal;
 use restriction::{all_legal, flag_chosen, restrict};
 use rows::Chart;
 
-// What Weighing answers: that the worths are there, or a refusal: the chart's, 10 where a row is shorter than the count of positions,
-// or 12 where a choice is not legal.
-#[derive(Clone, Copy)]
-pub enum Weighed {
-    Done,
-    Refused(Refusal),
-}
-
-// Weighs the choices into a lent row. What lies past the last position's number stays, and on a refusal everything does.
-pub fn weigh_chart(text: &[u8], choices: &[u16], worths: &mut [u16]) -> Weighed
+// Weighs the choices into a lent row; or a refusal: the chart's, 10 where a row is shorter than the count of positions, or 12 where a choice
+// is not legal. What lies past the last position's number stays, and on a refusal everything does.
+pub fn weigh_chart(text: &[u8], choices: &[u16], worths: &mut [u16]) -> Result<(), Refusal>
     ensures { WeighedIs text.now choices.now worths.old worths.new result }
 {
     let mut owners = [0u8; Chart::POSITIONS];
@@ -32,30 +24,26 @@ pub fn weigh_chart(text: &[u8], choices: &[u16], worths: &mut [u16]) -> Weighed
     let mut costs = [0u8; Chart::MOVES];
     let mut froms = [0u16; Chart::MOVES];
     let mut tos = [0u16; Chart::MOVES];
-    match load(
+    let chart = load(
         text,
         &mut owners,
         &mut marks,
         &mut costs,
         &mut froms,
         &mut tos,
-    ) {
-        Examination::Refused(r) => Weighed::Refused(Refusal::Chart(r)),
-        Examination::Accepted(chart) => {
-            let n = chart.positions;
-            let m = chart.moves;
-            if choices.len() < n {
-                return Weighed::Refused(Refusal::Short);
-            }
-            if worths.len() < n {
-                return Weighed::Refused(Refusal::Short);
-            }
-            if weigh_rows(n, m, &owners, &marks, &costs, &froms, &tos, choices, worths) {
-                return Weighed::Done;
-            }
-            Weighed::Refused(Refusal::Choice)
-        }
+    )?;
+    let n = chart.positions;
+    let m = chart.moves;
+    if choices.len() < n {
+        return Err(Refusal::Short);
     }
+    if worths.len() < n {
+        return Err(Refusal::Short);
+    }
+    if weigh_rows(n, m, &owners, &marks, &costs, &froms, &tos, choices, worths) {
+        return Ok(());
+    }
+    Err(Refusal::Choice)
 }
 
 // Weighs decoded rows by the solver, over the moves that stay; or answers that a choice is not legal. The rows hold a
@@ -80,15 +68,15 @@ pub fn weigh_rows(
         return false;
     }
     if m <= FEW {
-        weigh_few(n, m, owners, marks, costs, froms, tos, choices, worths);
+        weigh_up_to::<FEW>(n, m, owners, marks, costs, froms, tos, choices, worths);
     } else {
-        weigh_many(n, m, owners, marks, costs, froms, tos, choices, worths);
+        weigh_up_to::<{ Chart::MOVES }>(n, m, owners, marks, costs, froms, tos, choices, worths);
     }
     true
 }
 
-// Weighs legal choices over a chart with few moves, and over any: only the length of the rows for the moves that stay differs.
-fn weigh_few(
+// Weighs legal choices, with rows for the moves that stay that have room for N of them.
+fn weigh_up_to<const N: usize>(
     n: usize,
     m: usize,
     owners: &[u8],
@@ -100,45 +88,12 @@ fn weigh_few(
     worths: &mut [u16],
 )
     requires n_in_bounds { ((a : Arena) × (RowsOf a n m owners.now marks.now costs.now froms.now tos.now × Legal a (row_value choices.now))) × (n ≤ length choices.now) × (n ≤ length worths.old) }
-    requires m_bound { m ≤ 512 }
+    requires m_bound { (m ≤ N) × (N ≤ 4096) }
     ensures { LegalWeighed n m owners.now marks.now costs.now froms.now tos.now choices.now worths.old worths.new }
 {
-    let mut costskept = [0u8; FEW];
-    let mut fromskept = [0u16; FEW];
-    let mut toskept = [0u16; FEW];
-    solve_restricted(
-        n,
-        m,
-        owners,
-        marks,
-        costs,
-        froms,
-        tos,
-        choices,
-        &mut costskept,
-        &mut fromskept,
-        &mut toskept,
-        worths,
-    );
-}
-
-fn weigh_many(
-    n: usize,
-    m: usize,
-    owners: &[u8],
-    marks: &[u8],
-    costs: &[u8],
-    froms: &[u16],
-    tos: &[u16],
-    choices: &[u16],
-    worths: &mut [u16],
-)
-    requires { ((a : Arena) × (RowsOf a n m owners.now marks.now costs.now froms.now tos.now × Legal a (row_value choices.now))) × (n ≤ length choices.now) × (n ≤ length worths.old) }
-    ensures { LegalWeighed n m owners.now marks.now costs.now froms.now tos.now choices.now worths.old worths.new }
-{
-    let mut costskept = [0u8; Chart::MOVES];
-    let mut fromskept = [0u16; Chart::MOVES];
-    let mut toskept = [0u16; Chart::MOVES];
+    let mut costskept = [0u8; N];
+    let mut fromskept = [0u16; N];
+    let mut toskept = [0u16; N];
     solve_restricted(
         n,
         m,

@@ -1,5 +1,5 @@
 -- The plate of valued rows is the arena's plate, and the job's answers.
-use Rattle.std.specs.Prelude.{ℕ, ◌+◌, ◌*◌, ◌≤◌, refl, true, false, List, ◌++◌, length, drop, leb}
+use Rattle.std.specs.Prelude.{ℕ, ◌+◌, ◌*◌, ◌≤◌, refl, true, false, List, ◌++◌, length, drop, leb, Ok, Err}
 use Rattle.std.proofs.Common.{arith, sym, ap, subst, ◌∙◌, length-append}
 use Rattle.std.proofs.Math.Path.{◌≡◌}
 use Rattle.rows.specs.FirstLineLaws.{first-line-is}
@@ -15,7 +15,6 @@ use Rattle.rows.specs.declared.Chart.{Chart}
 use Rattle.refusal.specs.declared.Misdrawn.{Misdrawn}
 use Rattle.refusal.specs.declared.Refusal.{Refusal}
 use Rattle.refusal.specs.declared.Refusal.TheVariants.{Chart as OfChart, Short}
-use Rattle.chart.specs.declared.Examination.TheVariants.{Accepted, Refused}
 use Rattle.valuing.specs.Valuing.{PlateRows, RowsValued}
 use Rattle.valuing.specs.Columns.{value-column, choice-column, step-column, first-line-column}
 use Rattle.rows.specs.declared.FirstLine.{FirstLine}
@@ -23,7 +22,6 @@ use Rattle.plate.specs.Text.{plate_text}
 use Rattle.plate.specs.Line.{header-line-length, lines-length}
 use Rattle.plate.specs.RowTrip.{plate-same}
 use Rattle.writing.specs.Writing.{rounds_first_line, plate_of, PlateWritten, written, written_by, WrittenIs}
-use Rattle.writing.specs.declared.Written.TheVariants.{Length, Refused as Turned}
 
 pub plate-length : (a : Arena) → length (plate_of a) ≡ (size a + 1) * 22
 unfolding plate_of plate_text
@@ -57,21 +55,21 @@ module _ {n m : ℕ} {owners marks costs froms tos values values' choices choice
 
 module _ {text out : List ℕ} where
   -- a refusal leaves the buffer
-  turned : (x : Refusal) → Turned x ≡ written text (length out) → WrittenIs text out out (Turned x)
+  turned : (x : Refusal) → Err x ≡ written text (length out) → WrittenIs text out out (Err x)
   turned x e = record { answer = e; taken = λ k z. let w : ◌≡◌ {A = ℕ} 0 1 = cc in absurd (omega arith); refused = λ y z. refl }
 
-  pub written-refused : {r : Misdrawn} → examined text ≡ Refused r → WrittenIs text out out (Turned (OfChart r))
+  pub written-refused : {r : Misdrawn} → examined text ≡ Err r → WrittenIs text out out (Err (OfChart r))
   unfolding written written_by
   written-refused {r} e = turned (OfChart r) (rw e)
 
-  pub written-short : {chart : Chart} → examined text ≡ Accepted chart → leb ((chart.positions + 1) * 22) (length out) ≡ false → WrittenIs text out out (Turned Short)
+  pub written-short : {chart : Chart} → examined text ≡ Ok chart → leb ((chart.positions + 1) * 22) (length out) ≡ false → WrittenIs text out out (Err Short)
   unfolding written written_by
   written-short e short = turned Short (rw (e, short))
 
-  pub written-taken : {chart : Chart} {m : ℕ} {owners marks costs froms tos out' : List ℕ} → examined text ≡ Accepted chart
+  pub written-taken : {chart : Chart} {m : ℕ} {owners marks costs froms tos out' : List ℕ} → examined text ≡ Ok chart
       → leb ((chart.positions + 1) * 22) (length out) ≡ true → RowsOf (arena_of text) chart.positions m owners marks costs froms tos
       → PlateWritten chart.positions m owners marks costs froms tos out out'
-      → WrittenIs text out out' (Length ((chart.positions + 1) * 22))
+      → WrittenIs text out out' (Ok ((chart.positions + 1) * 22))
   unfolding written written_by
   written-taken {chart} e room d plate =
       record {

@@ -5,7 +5,6 @@ ghost use Rattle.std.specs.Prelude.{◌+◌, ◌*◌, ◌<◌, ◌≤◌, length
 ghost use Rattle.rows.specs.Rows.{ChartRows};
 ghost use Rattle.writing.specs.Writing.{PlateWritten, WrittenIs};
 
-use chart::Examination;
 use decode::load;
 use plate::LINE;
 use plate_lines::write_rows;
@@ -13,15 +12,9 @@ use refusal::Refusal;
 use rows::Chart;
 use valuing::value_rows;
 
-// What Writing answers: the plate's length, or a refusal: the chart's, or 10 for a buffer that the plate does not fit.
-#[derive(Clone, Copy)]
-pub enum Written {
-    Length(usize),
-    Refused(Refusal),
-}
-
-// Writes the plate of a chart into a lent buffer. What lies past its last line stays, and on a refusal everything does.
-pub fn write_plate(text: &[u8], out: &mut [u8]) -> Written
+// Writes the plate of a chart into a lent buffer, and answers its length, or a refusal: the chart's, or 10 for a buffer that the plate does not
+// fit. What lies past its last line stays, and on a refusal everything does.
+pub fn write_plate(text: &[u8], out: &mut [u8]) -> Result<usize, Refusal>
     ensures { WrittenIs text.now out.old out.new result }
 {
     let mut owners = [0u8; Chart::POSITIONS];
@@ -29,26 +22,22 @@ pub fn write_plate(text: &[u8], out: &mut [u8]) -> Written
     let mut costs = [0u8; Chart::MOVES];
     let mut froms = [0u16; Chart::MOVES];
     let mut tos = [0u16; Chart::MOVES];
-    match load(
+    let chart = load(
         text,
         &mut owners,
         &mut marks,
         &mut costs,
         &mut froms,
         &mut tos,
-    ) {
-        Examination::Refused(r) => Written::Refused(Refusal::Chart(r)),
-        Examination::Accepted(chart) => {
-            let n = chart.positions;
-            let m = chart.moves;
-            let size = (n + 1) * LINE;
-            if out.len() < size {
-                return Written::Refused(Refusal::Short);
-            }
-            write_valued(n, m, &owners, &marks, &costs, &froms, &tos, out);
-            Written::Length(size)
-        }
+    )?;
+    let n = chart.positions;
+    let m = chart.moves;
+    let size = (n + 1) * LINE;
+    if out.len() < size {
+        return Err(Refusal::Short);
     }
+    write_valued(n, m, &owners, &marks, &costs, &froms, &tos, out);
+    Ok(size)
 }
 
 // Values rows that hold a chart, and writes their plate.

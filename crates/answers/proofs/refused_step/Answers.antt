@@ -2,4 +2,4 @@
 use Rattle.answers.proofs.refused_step.Goals as goal
 
 pub returns : goal.returns
-returns c = rw c.numbers.ensures
+returns c = rw c.from.ensures

@@ -2,8 +2,8 @@
 use mathlib.Core.Path.{◌∙◌}
 use Rattle.answers.proofs.started_numbers.Goals as goal
 
-pub returns-in-Begun : goal.returns-in-Begun
-returns-in-Begun c = rw (c.in-Begun.is, c.none.ensures)
+pub returns-in-Ok : goal.returns-in-Ok
+returns-in-Ok c = rw (c.in-Ok.is, c.none.ensures)
 
-pub returns-in-Refused : goal.returns-in-Refused
-returns-in-Refused c = c.refused_step.ensures ∙ rw (c.in-Refused.is, c.none-in-Refused.ensures)
+pub returns-in-Err : goal.returns-in-Err
+returns-in-Err c = c.refused_step.ensures ∙ rw (c.in-Err.is, c.none-in-Err.ensures)

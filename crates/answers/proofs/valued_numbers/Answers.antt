@@ -1,8 +1,8 @@
 -- `valued_numbers` meets its contract: by the answer's case.
 use Rattle.answers.proofs.valued_numbers.Goals as goal
 
-pub returns-in-Rounds : goal.returns-in-Rounds
-returns-in-Rounds c = rw (c.in-Rounds.is, c.none.ensures)
+pub returns-in-Ok : goal.returns-in-Ok
+returns-in-Ok c = rw (c.in-Ok.is, c.none.ensures)
 
-pub returns-in-Refused : goal.returns-in-Refused
-returns-in-Refused c = rw (c.in-Refused.is, c.numbers.ensures)
+pub returns-in-Err : goal.returns-in-Err
+returns-in-Err c = rw (c.in-Err.is, c.from.ensures)

@@ -6,6 +6,7 @@ use native.Mathlib.Omega.{arith}
 use mathlib.Core.Path.{◌≡◌, sym, ap, ◌∙◌}
 use Rattle.search.proofs.Cases.{cases}
 use Rattle.chart.specs.Examined.{examined, lines_after}
+use Rattle.search.proofs.HandedOn.{handed-on}
 use Rattle.chart.proofs.examine.Goals as goal
 
 pub returns-then-size-eq0 : goal.returns-then-size-eq0
@@ -23,17 +24,17 @@ returns-then-size-ne0 c = search cases
 pub after_header-requires : goal.after_header-requires
 after_header-requires c =
     let text = c.args.text.now in
-    let chart = c.in-Accepted.chart in
-    let w = header-accepts text chart (sym c.header.ensures ∙ c.in-Accepted.is) in
+    let chart = c.in_ok-chart.chart in
+    let w = header-accepts text chart (sym c.header.ensures ∙ c.in_ok-chart.was) in
     let limits = w.0 in
     let n : chart.positions ≡ positions_of text = ap (λ (k : Chart). k.positions) w.1 in
     let m : chart.moves ≡ moves_of text = ap (λ (k : Chart). k.moves) w.1 in
     record { moves_in_bounds = omega arith; positions_bound = (omega arith, omega arith) }
 
-pub returns-in-Refused : goal.returns-in-Refused
+pub returns-in_err-chart : goal.returns-in_err-chart
 unfolding examined lines_after
-returns-in-Refused c = simp (← c.header.ensures, c.in-Refused.is) (search cases)
+returns-in_err-chart c = simp (handed-on _ c.from_residual.ensures.1, ← c.header.ensures, c.in_err-chart.was) (search cases)
 
-pub returns-in-Accepted : goal.returns-in-Accepted
+pub returns : goal.returns
 unfolding examined lines_after
-returns-in-Accepted c = simp (← c.header.ensures, c.in-Accepted.is, ← c.after_header.ensures) (search cases)
+returns c = simp (← c.header.ensures, c.in_ok-chart.was, ← c.after_header.ensures) (search cases)

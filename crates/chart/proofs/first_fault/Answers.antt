@@ -1,6 +1,7 @@
 -- `chart::first_fault` meets its contract. The invariant: the columns of the line before are at hand, and the first fault of what is
 -- left is the first fault of all. A clean line leaves that as it is, a fault ends it, and with nothing left there is none: the
 -- three laws of `first_from`.
+use Rattle.std.specs.Prelude.{Ok}
 use Prim.Native.Nat.{ℕ, ◌+◌, ◌-◌, ◌<◌}
 use mathlib.Core.Path.{◌≡◌, refl, sym, ap, ◌∙◌, subst}
 use native.Mathlib.Omega.{arith}
@@ -12,8 +13,9 @@ use lib.ListN.{get_or}
 use lib.Dec.{ltb}
 use Rattle.chart.specs.Text.{from_at}
 use Rattle.chart.specs.Flags.{flag-next}
-use Rattle.chart.specs.declared.Finding.TheVariants.{Clean}
 use Rattle.chart.specs.declared.Row.{Row}
+use Rattle.chart.specs.Good.{faulty}
+use Rattle.search.proofs.HandedOn.{handed-on}
 use Rattle.chart.proofs.first_fault.Goals as goal
 
 pub loop-line-init : goal.loop-line-init
@@ -33,15 +35,12 @@ loop-line-init c =
 pub line_fault-requires : goal.line_fault-requires
 line_fault-requires c = record { le_line = (omega arith, omega arith); row_value = (c.row_at-row.ensures, c.loop-line.invariant.2) }
 
-pub shape_of-flags-in-Fault : goal.shape_of-flags-in-Fault
-shape_of-flags-in-Fault c = c.loop-line.invariant.4
-
-pub returns-in-Fault : goal.returns-in-Fault
-returns-in-Fault c =
+pub returns-in_err-line_fault : goal.returns-in_err-line_fault
+returns-in_err-line_fault c =
     let a = c.args in
-    let found = sym c.line_fault.ensures ∙ c.in-Fault.is in (
-      sym found ∙ sym (first-stop _ (line_finding a.text.now a.n) Clean (a.last + 1) c.loop-line.line (omega arith) (ap is_clean found)) ∙ c.loop-line.invariant.3,
-      λ e. let z : ◌≡◌ {A = ℕ} 0 1 = cc e in absurd (omega arith),
+    let found = sym c.line_fault.ensures ∙ c.in_err-line_fault.was in (
+      handed-on _ c.from_residual.ensures.1 ∙ sym found ∙ sym (first-stop _ (line_finding a.text.now a.n) (Ok tt) (a.last + 1) c.loop-line.line (omega arith) (ap is_clean found)) ∙ c.loop-line.invariant.3,
+      λ e. faulty _ (sym (handed-on _ c.from_residual.ensures.1) ∙ e),
     )
 
 pub loop-line-preserved : goal.loop-line-preserved
@@ -53,7 +52,7 @@ loop-line-preserved c =
       omega arith,
       omega arith,
       rw e c.row_at-row.ensures,
-      first_next _ (line_finding a.text.now a.n) Clean (a.last + 1) c.loop-line.line (omega arith) (ap is_clean (sym c.line_fault.ensures ∙ c.in-Clean.is))
+      first_next _ (line_finding a.text.now a.n) (Ok tt) (a.last + 1) c.loop-line.line (omega arith) (ap is_clean (sym c.line_fault.ensures ∙ c.in_ok-line_fault.was))
           ∙ c.loop-line.invariant.3,
       c.flag_row.auto.flags ∙ c.loop-line.invariant.4,
       λ v h.
@@ -70,6 +69,6 @@ pub returns : goal.returns
 returns c =
     let a = c.args in
     let e : c.loop-line.line - 1 - a.n ≡ a.last - a.n = omega arith in (
-      sym (first_done _ (line_finding a.text.now a.n) Clean (a.last + 1) c.loop-line.line (omega arith)) ∙ c.loop-line.invariant.3,
+      sym (first_done _ (line_finding a.text.now a.n) (Ok tt) (a.last + 1) c.loop-line.line (omega arith)) ∙ c.loop-line.invariant.3,
       λ clean v h. subst (λ (k : ℕ). get_or c.loop-line.flags v 0 ≡ cond (meant_in a.text.now a.n k v) 1 (get_or a.flags.now v 0)) e (c.loop-line.invariant.5 v h),
     )

@@ -11,6 +11,3 @@ use Rattle.chart.proofs.first_fault.Given as goal
 
 abbrev pub invariant-loop-line : goal.invariant-loop-line
 invariant-loop-line l = (1 ≤ l.line) × (l.line ≤ l.last + 1) × (l.before ≡ row_at l.text (l.line - 1)) × (first_fault (line_finding l.text l.n) (l.last + 1 - l.line) l.line ≡ first_fault (line_finding l.text l.n) l.last 1) × (length l.flags ≡ length l.initial.flags) × ((v : ℕ) → v < length l.initial.flags → get_or l.flags v 0 ≡ cond (meant_in l.text l.n (l.line - 1 - l.n) v) 1 (get_or l.initial.flags v 0))
-
-abbrev pub decreases-loop-line : goal.decreases-loop-line
-decreases-loop-line l = l.last + 1 - l.line

@@ -6,6 +6,3 @@ use Rattle.chart.proofs.unflagged.Given as goal
 
 abbrev pub invariant-loop-v : goal.invariant-loop-v
 invariant-loop-v l = (l.v ≤ l.n) × (first_fault (unflagged_at l.text l.flags) (l.n - l.v) l.v ≡ first_fault (unflagged_at l.text l.flags) l.n 0)
-
-abbrev pub decreases-loop-v : goal.decreases-loop-v
-decreases-loop-v l = l.n - l.v

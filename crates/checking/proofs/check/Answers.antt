@@ -1,20 +1,17 @@
 -- `check` meets its contract: the chart's refusal is handed on, and a loaded chart's rows are checked with the plate.
-use mathlib.Core.Path.{◌≡◌, sym, ◌∙◌}
-use Rattle.chart.specs.Examined.{examined}
-use Rattle.chart.specs.declared.Examination.TheVariants.{Accepted}
+use mathlib.Core.Path.{sym, ◌∙◌}
 use Rattle.checking.specs.CheckingLaws.{decoded-ascending, refused-answer, taken-answer}
+use Rattle.search.proofs.HandedOn.{handed-on}
 use Rattle.checking.proofs.check.Goals as goal
 
 pub check_plate-requires : goal.check_plate-requires
 check_plate-requires c =
-    let accepted : examined c.args.text.now ≡ Accepted c.in-Accepted.chart = sym c.load.ensures.answer ∙ c.in-Accepted.is in
-    let rows = (c.load.ensures.taken _ c.in-Accepted.is).rows in
-    ((_, rows), decoded-ascending _ _ (accepted) rows)
+    let rows = (c.load.ensures.taken _ c.in_ok-chart.was).rows in
+    ((_, rows), decoded-ascending _ _ (sym c.load.ensures.answer ∙ c.in_ok-chart.was) rows)
 
-pub returns-in-Refused : goal.returns-in-Refused
-returns-in-Refused c = refused-answer _ _ _ (sym c.load.ensures.answer ∙ c.in-Refused.is)
+pub returns-in_err-chart : goal.returns-in_err-chart
+returns-in_err-chart c = rw (handed-on _ c.from_residual.ensures.1) (refused-answer _ _ _ (sym c.load.ensures.answer ∙ c.in_err-chart.was))
 
-pub returns-in-Accepted : goal.returns-in-Accepted
-returns-in-Accepted c =
-    let accepted : examined c.args.text.now ≡ Accepted c.in-Accepted.chart = sym c.load.ensures.answer ∙ c.in-Accepted.is in
-    taken-answer _ _ _ (accepted) (c.load.ensures.taken _ c.in-Accepted.is).rows c.check_plate.ensures
+pub returns : goal.returns
+returns c =
+    taken-answer _ _ _ (sym c.load.ensures.answer ∙ c.in_ok-chart.was) (c.load.ensures.taken _ c.in_ok-chart.was).rows c.check_plate.ensures

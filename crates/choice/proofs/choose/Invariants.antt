@@ -1,12 +1,6 @@
 -- `choose` meets its contract: the invariant says that the row has the best target among the first i moves.
-use Prim.Native.Nat.{◌≤◌, ◌-◌}
-use mathlib.Core.Path.{◌≡◌}
-use lib.ListN.{length}
 use Rattle.choice.specs.ChooseLaws.{Choosing}
 use Rattle.choice.proofs.choose.Given as goal
 
 abbrev pub invariant-loop-i : goal.invariant-loop-i
-invariant-loop-i l = (l.i ≤ l.m) × (length l.choices ≡ length l.initial.choices) × Choosing l.n l.owners l.costs l.froms l.tos l.values l.i l.initial.choices l.choices
-
-abbrev pub decreases-loop-i : goal.decreases-loop-i
-decreases-loop-i l = l.m - l.i
+invariant-loop-i l = Choosing l.n l.owners l.costs l.froms l.tos l.values l.i l.initial.choices l.choices

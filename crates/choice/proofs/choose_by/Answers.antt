@@ -14,7 +14,3 @@ returns-then-owners-from-ne0 c = search cases
 pub returns-then-is_better : goal.returns-then-is_better
 unfolding own_move
 returns-then-is_better c = simp (← c.is_better.ensures, c.if-is_better.true) (search cases)
-
-pub returns-else-is_better : goal.returns-else-is_better
-unfolding own_move
-returns-else-is_better c = simp (← c.is_better.ensures, c.if-is_better.false) (search cases)

@@ -7,9 +7,6 @@ pub returns-then-best-eq-NONE : goal.returns-then-best-eq-NONE
 unfolding is_better
 returns-then-best-eq-NONE c = search cases
 
-pub bounds-values-best : goal.bounds-values-best
-bounds-values-best c = c.requires.best-in c.if-best-eq-NONE.false
-
 pub returns-then-old-new : goal.returns-then-old-new
 unfolding is_better
 returns-then-old-new c = search cases

@@ -8,6 +8,3 @@ use Rattle.decode.proofs.decode_moves.Given as goal
 
 abbrev pub invariant-loop-i : goal.invariant-loop-i
 invariant-loop-i l = (l.i ≤ l.m) × (l.m ≤ length l.initial.costs) × (l.m ≤ length l.initial.froms) × (l.m ≤ length l.initial.tos) × MovesFit l.text l.first l.m × MoveRows l.text l.first l.i l.initial.costs l.costs l.initial.froms l.froms l.initial.tos l.tos
-
-abbrev pub decreases-loop-i : goal.decreases-loop-i
-decreases-loop-i l = l.m - l.i

@@ -8,6 +8,3 @@ use Rattle.decode.proofs.decode_positions.Given as goal
 
 abbrev pub invariant-loop-v : goal.invariant-loop-v
 invariant-loop-v l = (l.v ≤ l.n) × (l.n ≤ length l.initial.owners) × (l.n ≤ length l.initial.marks) × PositionsFit l.text l.n × PositionRows l.text l.v l.initial.owners l.owners l.initial.marks l.marks
-
-abbrev pub decreases-loop-v : goal.decreases-loop-v
-decreases-loop-v l = l.n - l.v

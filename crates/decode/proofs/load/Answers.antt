@@ -10,15 +10,15 @@ pub walk-requires : goal.walk-requires
 walk-requires c =
     let room = c.requires.in_bounds.0 in
     let more = c.requires.in_bounds.1 in
-    record { text_value = sym c.header.ensures ∙ c.in-Accepted.is; in_bounds = (omega arith, omega arith); in_bounds_2 = c.requires.in_bounds_2 }
+    record { text_value = sym c.header.ensures ∙ c.in-Ok.is; in_bounds = (omega arith, omega arith); in_bounds_2 = c.requires.in_bounds_2 }
 
 pub returns-then-walk : goal.returns-then-walk
 returns-then-walk c =
     let passed = c.walk.ensures.told c.if-walk.true in
     accepted-loads _ _ _ _ _ _ _ _ _ _ _ _ passed.accepted (search rules, search rules) (search rules, search rules, search rules) passed.positions passed.moves
 
-pub load_exactly-requires-in-Accepted : goal.load_exactly-requires-in-Accepted
-load_exactly-requires-in-Accepted c =
+pub load_exactly-requires-in-Ok : goal.load_exactly-requires-in-Ok
+load_exactly-requires-in-Ok c =
     let rows = c.walk.ensures in
     let one = rows.owners-kept.same_length in
     let two = rows.marks-kept.same_length in
@@ -30,5 +30,5 @@ load_exactly-requires-in-Accepted c =
 pub returns-else-walk : goal.returns-else-walk
 returns-else-walk c =
     let rows = c.walk.ensures in
-    load_after _ _ _ _ _ _ _ _ _ _ _ _ _ _ _ _ _ _ (sym c.header.ensures ∙ c.in-Accepted.is)
-    rows.owners-kept rows.marks-kept rows.costs-kept rows.froms-kept rows.tos-kept c.load_exactly-in-Accepted.ensures
+    load_after _ _ _ _ _ _ _ _ _ _ _ _ _ _ _ _ _ _ (sym c.header.ensures ∙ c.in-Ok.is)
+    rows.owners-kept rows.marks-kept rows.costs-kept rows.froms-kept rows.tos-kept c.load_exactly-in-Ok.ensures

@@ -1,12 +1,10 @@
 -- `count_moves` meets its contract: the invariant says that the moves into the first positions of the order were looked at.
 use Prim.Native.Nat.{◌-◌}
-use mathlib.Core.Path.{◌≡◌}
-use lib.ListN.{length}
 use Rattle.distances.specs.Distances.{Searching}
 use Rattle.distances.proofs.count_moves.Given as goal
 
 abbrev pub invariant-loop-head : goal.invariant-loop-head
-invariant-loop-head l = (length l.left ≡ length l.initial.left) × (length l.order ≡ length l.initial.order) × Searching l.n l.m l.marks l.froms l.tos l.head l.tail l.left l.order
+invariant-loop-head l = Searching l.n l.m l.marks l.froms l.tos l.head l.tail l.left l.order
 
 abbrev pub decreases-loop-head : goal.decreases-loop-head
 decreases-loop-head l = l.n - l.head

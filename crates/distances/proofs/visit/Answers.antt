@@ -2,13 +2,13 @@
 use native.Mathlib.Omega.{arith}
 use Prim.Native.Nat.{ℕ, ◌+◌, ◌<◌}
 use Rattle.std.proofs.Common.{List}
-use mathlib.Core.Path.{◌≡◌, refl, ◌∙◌}
+use mathlib.Core.Path.{◌≡◌}
 use lib.ListN.{get_or}
 use Rattle.chains.specs.Chains.{Chained, next_of}
 use Rattle.chains.specs.ChainLaws.{next-above}
 use Rattle.distances.specs.Distances.{Joins}
 use Rattle.distances.specs.QueueLaws.{queue-most, queue-room}
-use Rattle.distances.specs.SearchLaws.{Visiting, visiting-none, visiting-next, visiting-done, reached-lengths}
+use Rattle.distances.specs.SearchLaws.{Visiting, visiting-next, visiting-done, reached-lengths}
 use Rattle.distances.proofs.visit.Goals as goal
 
 pub offset_bounds-order-head : goal.offset_bounds-order-head
@@ -19,70 +19,17 @@ pub bounds-order-head : goal.bounds-order-head
 bounds-order-head c = let head-inside : c.args.head < c.args.n = omega (arith, queue-most c.requires.by_index.0.1.1.2.queue, c.requires.by_index.1) in
     omega (arith, head-inside, c.requires.in_bounds)
 
-pub overflow_cast-to : goal.overflow_cast-to
-overflow_cast-to c = let target : ℕ = get_or c.args.order.now c.args.head 0 in
-    let target-inside : target < c.args.n = c.requires.by_index.0.1.1.2.queue.inside c.args.head c.requires.by_index.1 in
-    omega (arith, target-inside, c.requires.by_index.2)
-
-pub offset_bounds-left-to : goal.offset_bounds-left-to
-offset_bounds-left-to c = let target : ℕ = get_or c.args.order.now c.args.head 0 in
-    let target-inside : target < c.args.n = c.requires.by_index.0.1.1.2.queue.inside c.args.head c.requires.by_index.1 in
-    omega (arith, target-inside, c.requires.by_index.2)
-
-pub bounds-left-to : goal.bounds-left-to
-bounds-left-to c = let target : ℕ = get_or c.args.order.now c.args.head 0 in
-    let target-inside : target < c.args.n = c.requires.by_index.0.1.1.2.queue.inside c.args.head c.requires.by_index.1 in
-    omega (arith, target-inside, c.requires.in_bounds)
-
 pub overflow_add-count : goal.overflow_add-count
 overflow_add-count c = let head-inside : c.args.head < c.args.n = omega (arith, queue-most c.requires.by_index.0.1.1.2.queue, c.requires.by_index.1) in
     omega (arith, c.requires.by_index.0.1.1.2.queue.few c.args.head c.requires.by_index.1, head-inside, c.requires.by_index.2)
 
-pub offset_bounds-heads-to : goal.offset_bounds-heads-to
-offset_bounds-heads-to c = let target : ℕ = get_or c.args.order.now c.args.head 0 in
-    let target-inside : target < c.args.n = c.requires.by_index.0.1.1.2.queue.inside c.args.head c.requires.by_index.1 in
-    omega (arith, target-inside, c.requires.by_index.2)
-
-pub bounds-heads-to : goal.bounds-heads-to
-bounds-heads-to c = let target : ℕ = get_or c.args.order.now c.args.head 0 in
-    let target-inside : target < c.args.n = c.requires.by_index.0.1.1.2.queue.inside c.args.head c.requires.by_index.1 in
-    omega (arith, target-inside, c.requires)
-
-pub overflow_cast-i : goal.overflow_cast-i
-overflow_cast-i c = let target : ℕ = get_or c.args.order.now c.args.head 0 in
-    omega (arith, c.shared_slice_known-4-1.given (target))
-
-pub loop-i-init : goal.loop-i-init
-loop-i-init c =
-    let target : ℕ = get_or c.args.order.now c.args.head 0 in
-    let target-inside : target < c.args.n = c.requires.by_index.0.1.1.2.queue.inside c.args.head c.requires.by_index.1 in
-    (refl, refl, λ marks tos chained joins search. visiting-none search c.requires.by_index.1 refl refl (chained.head (target) (omega (arith, target-inside, c.requires.by_index.2))))
-
-pub offset_bounds-froms-i : goal.offset_bounds-froms-i
-offset_bounds-froms-i c = omega (arith, c.loop-i-test.true, c.requires.by_index.3)
-
-pub bounds-froms-i : goal.bounds-froms-i
-bounds-froms-i c = omega (arith, c.loop-i-test.true, c.requires.by_index.0.1.1.1.froms-row)
-
-pub overflow_cast-froms : goal.overflow_cast-froms
-overflow_cast-froms c = omega (arith, c.requires.by_index.0.1.1.1.from-inside _ c.loop-i-test.true, c.requires.by_index.2)
-
 pub reach-last-requires : goal.reach-last-requires
 reach-last-requires c =
     let target : ℕ = get_or c.args.order.now c.args.head 0 in
-    let visiting : Visiting c.args.n c.args.m c.requires.by_index.0.0 c.args.froms.now c.requires.by_index.0.1.0 c.args.head (target) (get_or c.args.left.now (target) 0 + 1) c.loop-i.left c.loop-i.order c.loop-i.last c.loop-i.i = c.loop-i.invariant.2 _ _ c.requires.by_index.0.1.1.0 c.requires.by_index.0.1.1.1 c.requires.by_index.0.1.1.2 in
+    let visiting : Visiting c.args.n c.args.m c.requires.by_index.0.0 c.args.froms.now c.requires.by_index.0.1.0 c.args.head (target) (get_or c.args.left.now (target) 0 + 1) c.loop-i.left c.loop-i.order c.loop-i.last c.loop-i.i = c.loop-i.invariant _ _ c.requires.by_index.0.1.1.0 c.requires.by_index.0.1.1.1 c.requires.by_index.0.1.1.2 in
     let from = c.requires.by_index.0.1.1.1.from-inside _ c.loop-i-test.true in
     let queue = (visiting).search.queue in
     (omega (arith, from, c.requires.by_index.2), omega (arith, from, c.requires.in_bounds, c), omega (arith, queue-most queue, c.requires.by_index.2), λ none. omega (arith, queue-room queue from none, c.requires.in_bounds, c))
-
-pub offset_bounds-nexts-i : goal.offset_bounds-nexts-i
-offset_bounds-nexts-i c = omega (arith, c.loop-i-test.true, c.requires.by_index.3)
-
-pub bounds-nexts-i : goal.bounds-nexts-i
-bounds-nexts-i c = omega (arith, c.loop-i-test.true, c.requires.in_bounds)
-
-pub overflow_cast-i-in-loop-i : goal.overflow_cast-i-in-loop-i
-overflow_cast-i-in-loop-i c = omega (arith, c.shared_slice_known-in-loop-i-2-1.given c.loop-i.i)
 
 pub loop-i-smaller : goal.loop-i-smaller
 loop-i-smaller c =
@@ -96,14 +43,10 @@ loop-i-preserved c =
     let next-line : (marks tos : List ℕ) → Chained tos c.args.m 0 c.args.heads.now c.args.nexts.now → Joins c.args.n c.args.m c.args.froms.now tos → c.loop-i.i < c.args.m → get_or c.args.nexts.now c.loop-i.i 0 ≡ next_of tos c.args.m (get_or tos c.loop-i.i 0) (c.loop-i.i + 1) = λ marks tos chained joins l. chained.next c.loop-i.i (omega arith) l (λ z. omega (arith, joins.to_inside c.loop-i.i l, c.requires.by_index.2)) in
     let turn = c.loop-i-test.true in
     let reached = c.reach-last.ensures in
-    let sizes = reached-lengths reached in (
-      sizes.0 ∙ c.loop-i.invariant.0,
-      sizes.1 ∙ c.loop-i.invariant.1,
-      λ marks tos chained joins search.
-          visiting-next c.requires.by_index.3 c.requires.by_index.2 (c.loop-i.invariant.2 marks tos chained joins search) turn (joins.from-inside _ turn) (omega (arith, c.requires.in_bounds, c)) (omega (arith, c.requires.in_bounds, c)) reached
-          (next-line marks tos chained joins turn),
-    )
+    let sizes = reached-lengths reached in λ marks tos chained joins search.
+    visiting-next c.requires.by_index.3 c.requires.by_index.2 (c.loop-i.invariant marks tos chained joins search) turn (joins.from-inside _ turn) (omega (arith, c.requires.in_bounds, c)) (omega (arith, c.requires.in_bounds, c)) reached
+    (next-line marks tos chained joins turn)
 
 pub returns : goal.returns
 returns c =
-    record { search = λ marks tos chained joins search. visiting-done c.requires.by_index.3 c.requires.by_index.2 (c.loop-i.invariant.2 marks tos chained joins search) c.loop-i-test.false }
+    record { search = λ marks tos chained joins search. visiting-done c.requires.by_index.3 c.requires.by_index.2 (c.loop-i.invariant marks tos chained joins search) c.loop-i-test.false }

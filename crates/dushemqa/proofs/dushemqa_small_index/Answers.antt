@@ -1,7 +1,7 @@
 -- `dushemqa_small_index` meets its contract: the job's answer, in numbers.
 use Rattle.std.proofs.Common.{◌∙◌, ap}
-use Rattle.answers.specs.Numbers.{indexed_numbers}
+use Rattle.answers.specs.Numbers.{count_numbers}
 use Rattle.dushemqa.proofs.dushemqa_small_index.Goals as goal
 
 pub returns : goal.returns
-returns c = c.indexed_numbers.ensures ∙ ap indexed_numbers c.index_small_chart.ensures
+returns c = c.count_numbers.ensures ∙ ap count_numbers c.index_small_chart.ensures

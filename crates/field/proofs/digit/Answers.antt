@@ -1,12 +1,9 @@
--- `field::digit` meets its contract: the tests are those of `is_digit`.
-use Rattle.search.proofs.Cases.{cases}
+-- `field::digit` meets its contract: the library's test of a digit is that of `is_digit`, whichever way each comparison goes.
+use Rattle.std.proofs.Common.{arith}
+use Rattle.std.proofs.lemmas.Bool.Decides.{nat_tests}
 use Rattle.field.specs.Reader.{is_digit}
 use Rattle.field.proofs.digit.Goals as goal
 
-pub returns-then-b-lt48 : goal.returns-then-b-lt48
-unfolding is_digit
-returns-then-b-lt48 c = search cases
-
 pub returns : goal.returns
 unfolding is_digit
-returns c = search cases
+returns c = grind (arith, nat_tests, c.is_ascii_digit.ensures.value)

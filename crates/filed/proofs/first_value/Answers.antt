@@ -22,15 +22,6 @@ settle-requires c =
     let begun = begin.ensures.goes_on _ (marked-gathered c.args.marks.now _ c.requires.n_in_bounds.0.0.few-positions values.row gathered _ _ (omega (arith, values.same_length, c.requires)) (omega (arith, steps.same_length, c.requires)) (omega (arith, c.requires)) (omega (arith, c.gather-late.auto, c.requires))) in
     (_, (g, first-ready c.args.marks.now _ g.few-positions values.row gathered begun g _ _ c.requires.n_in_bounds.0.1 due.row (record { needs-row = c.requires.n_in_bounds.1; values-row = omega (arith, begin.auto, values.same_length, c.requires); steps-row = omega (arith, begin.auto, steps.same_length, c.requires); order_row = omega (arith, begin.auto, c.requires); due-row = omega (arith, due.same_length, c.requires); later-row = omega (arith, c.gather-late.auto, c.requires) })))
 
-pub shape_of-values : goal.shape_of-values
-shape_of-values c = omega (arith, c.settle.auto, c.begin_value-tail.auto, c.clear.auto)
-
-pub shape_of-steps : goal.shape_of-steps
-shape_of-steps c = omega (arith, c.settle.auto, c.begin_value-tail.auto, c.clear-2.auto)
-
-pub shape_of-due : goal.shape_of-due
-shape_of-due c = omega (arith, c.settle.auto, c.clear-3.auto)
-
 pub returns : goal.returns
 returns c =
     let begin = c.begin_value-tail in

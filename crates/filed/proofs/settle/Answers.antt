@@ -1,20 +1,14 @@
 -- `settle` meets its contract: the invariant says that the rounds up to (k, s) were carried out, and that the order has those of the last
 -- from `at` on.
-use Prim.Native.Nat.{◌-◌, ◌≤◌}
+use Prim.Native.Nat.{◌≤◌}
 use native.Mathlib.Omega.{arith}
 use Rattle.solver.specs.Solving.{Settling}
-use Rattle.solver.specs.SettleLaws.{settling-none, settling-next, settling-stops}
+use Rattle.solver.specs.SettleLaws.{settling-next, settling-stops}
 use Rattle.visits.specs.Lists.{listed-most}
 use Rattle.visits.specs.Standing.{Ready}
-use Rattle.visits.specs.VisitLaws.{as-long-same, as-long-then, as-long-wide, ready-next}
+use Rattle.visits.specs.VisitLaws.{as-long-then, as-long-wide, ready-next}
 use Rattle.filed.specs.RoundLaws.{flags-noted, flags-placing, flags-empty}
 use Rattle.filed.proofs.settle.Goals as goal
-
-pub loop-grown-init : goal.loop-grown-init
-loop-grown-init c = (
-  as-long-same,
-  λ n g ready. (settling-none, ready, omega arith, omega arith),
-)
 
 pub overflow_add-s : goal.overflow_add-s
 overflow_add-s c = let so_far : Settling c.requires.0 c.requires.1.0.m c.requires.1.0.owners c.requires.1.0.costs c.requires.1.0.froms c.requires.1.0.tos c.args.k c.loop-grown.s c.args.values.now c.args.steps.now c.loop-grown.values c.loop-grown.steps × Ready c.requires.1.0 c.args.k c.loop-grown.at c.loop-grown.grown c.loop-grown.needs c.loop-grown.values c.loop-grown.steps c.loop-grown.order c.loop-grown.due c.loop-grown.later × (c.loop-grown.s ≤ c.loop-grown.grown.tail) × (c.args.lists.tail ≤ c.loop-grown.grown.tail) = c.loop-grown.invariant.1 _ c.requires.1.0 c.requires.1.1 in
@@ -24,24 +18,6 @@ overflow_add-s c = let so_far : Settling c.requires.0 c.requires.1.0.m c.require
 pub visit_round-grown-requires : goal.visit_round-grown-requires
 visit_round-grown-requires c = let so_far : Settling c.requires.0 c.requires.1.0.m c.requires.1.0.owners c.requires.1.0.costs c.requires.1.0.froms c.requires.1.0.tos c.args.k c.loop-grown.s c.args.values.now c.args.steps.now c.loop-grown.values c.loop-grown.steps × Ready c.requires.1.0 c.args.k c.loop-grown.at c.loop-grown.grown c.loop-grown.needs c.loop-grown.values c.loop-grown.steps c.loop-grown.order c.loop-grown.due c.loop-grown.later × (c.loop-grown.s ≤ c.loop-grown.grown.tail) × (c.args.lists.tail ≤ c.loop-grown.grown.tail) = c.loop-grown.invariant.1 _ c.requires.1.0 c.requires.1.1 in
     (_, (c.requires.1.0, (so_far).1))
-
-pub shape_of-needs-then-grown-end : goal.shape_of-needs-then-grown-end
-shape_of-needs-then-grown-end c = omega (arith, c.visit_round-grown.auto, c.loop-grown.invariant.0)
-
-pub shape_of-values-then-grown-end : goal.shape_of-values-then-grown-end
-shape_of-values-then-grown-end c = omega (arith, c.visit_round-grown.auto, c.loop-grown.invariant.0)
-
-pub shape_of-steps-then-grown-end : goal.shape_of-steps-then-grown-end
-shape_of-steps-then-grown-end c = omega (arith, c.visit_round-grown.auto, c.loop-grown.invariant.0)
-
-pub shape_of-order-then-grown-end : goal.shape_of-order-then-grown-end
-shape_of-order-then-grown-end c = omega (arith, c.visit_round-grown.auto, c.loop-grown.invariant.0)
-
-pub shape_of-due-then-grown-end : goal.shape_of-due-then-grown-end
-shape_of-due-then-grown-end c = omega (arith, c.visit_round-grown.auto, c.loop-grown.invariant.0)
-
-pub shape_of-later-then-grown-end : goal.shape_of-later-then-grown-end
-shape_of-later-then-grown-end c = omega (arith, c.visit_round-grown.auto, c.loop-grown.invariant.0)
 
 pub returns-then-grown-end : goal.returns-then-grown-end
 returns-then-grown-end c =

@@ -1,43 +1,16 @@
 -- `solve_rounds` meets its contract: the invariant says that the rounds of all values up to `last` were carried out.
-use Prim.Native.Nat.{◌-◌, ◌*◌}
+use Prim.Native.Nat.{◌*◌}
 use native.Mathlib.Omega.{arith}
 use Rattle.rows.specs.Rows.{RowIs}
 use Rattle.rows.specs.Numbers.{number_at}
 use Rattle.solver.specs.SolveLaws.{begin-again, solved-after, solving-done}
 use Rattle.visits.specs.Standing.{Setting, Ready}
-use Rattle.visits.specs.VisitLaws.{as-long-same, as-long-then}
+use Rattle.visits.specs.VisitLaws.{as-long-then}
 use Rattle.filed.proofs.solve_rounds.Goals as goal
-
-pub first_value-lists-requires : goal.first_value-lists-requires
-first_value-lists-requires c = record { n_in_bounds = c.requires.n_in_bounds; n_in_bounds_2 = c.requires.n_in_bounds_2 }
-
-pub loop-last-init : goal.loop-last-init
-loop-last-init c = (as-long-same, λ g so ready. (so, ready), omega arith)
-
-pub overflow_cast-last : goal.overflow_cast-last
-overflow_cast-last c = omega (arith, c.loop-last.invariant.2, c.requires.n_in_bounds.0.0.few-positions)
 
 pub next_value-lists-requires : goal.next_value-lists-requires
 next_value-lists-requires c = let ready_at : (g : Setting c.args.n c.args.starts.now c.args.entries.now) → RowIs c.args.needs.now (2 * c.args.n) (number_at g.first) → Ready g c.loop-last.last c.loop-last.lists.tail c.loop-last.lists c.loop-last.needs c.loop-last.values c.loop-last.steps c.loop-last.order c.loop-last.due c.loop-last.later = λ g first. let f = c.first_value-lists.ensures.goes_on g first in (c.loop-last.invariant.1 g (begin-again f.0) f.1).1 in
     ((_, (c.requires.n_in_bounds.0.0, ready_at c.requires.n_in_bounds.0.0 c.requires.n_in_bounds.0.1)), omega (arith, c.loop-last-test.true, c.requires.n_in_bounds.0.0.few-positions))
-
-pub shape_of-needs-then-lists-head : goal.shape_of-needs-then-lists-head
-shape_of-needs-then-lists-head c = omega (arith, c.next_value-lists.auto, c.loop-last.invariant.0, c.first_value-lists.auto)
-
-pub shape_of-values-then-lists-head : goal.shape_of-values-then-lists-head
-shape_of-values-then-lists-head c = omega (arith, c.next_value-lists.auto, c.loop-last.invariant.0, c.first_value-lists.auto)
-
-pub shape_of-steps-then-lists-head : goal.shape_of-steps-then-lists-head
-shape_of-steps-then-lists-head c = omega (arith, c.next_value-lists.auto, c.loop-last.invariant.0, c.first_value-lists.auto)
-
-pub shape_of-order-then-lists-head : goal.shape_of-order-then-lists-head
-shape_of-order-then-lists-head c = omega (arith, c.next_value-lists.auto, c.loop-last.invariant.0, c.first_value-lists.auto)
-
-pub shape_of-due-then-lists-head : goal.shape_of-due-then-lists-head
-shape_of-due-then-lists-head c = omega (arith, c.next_value-lists.auto, c.loop-last.invariant.0, c.first_value-lists.auto)
-
-pub shape_of-later-then-lists-head : goal.shape_of-later-then-lists-head
-shape_of-later-then-lists-head c = omega (arith, c.next_value-lists.auto, c.loop-last.invariant.0, c.first_value-lists.auto)
 
 pub returns-then-lists-head : goal.returns-then-lists-head
 returns-then-lists-head c =
@@ -48,37 +21,9 @@ returns-then-lists-head c =
           solved-after f.0 (c.next_value-lists.ensures.stops _ g inv.1 _ _ _ inv.0 c.if-lists-head.true);
     }
 
-pub overflow_add-last : goal.overflow_add-last
-overflow_add-last c = omega (arith, c.loop-last-test.true, c.requires.n_in_bounds.0.0.few-positions)
-
-pub loop-last-smaller : goal.loop-last-smaller
-loop-last-smaller c = omega (arith, c.loop-last-test.true)
-
 pub loop-last-preserved : goal.loop-last-preserved
 loop-last-preserved c =
-    let next = c.next_value-lists in (
-      as-long-then c.loop-last.invariant.0 next.ensures.long,
-      λ g so ready. let inv = c.loop-last.invariant.1 g so ready in next.ensures.goes_on _ g inv.1 _ _ _ inv.0 c.if-lists-head.false,
-      omega (arith, c.loop-last-test.true),
-    )
-
-pub shape_of-needs : goal.shape_of-needs
-shape_of-needs c = omega (arith, c.loop-last.invariant.0, c.first_value-lists.auto)
-
-pub shape_of-values : goal.shape_of-values
-shape_of-values c = omega (arith, c.loop-last.invariant.0, c.first_value-lists.auto)
-
-pub shape_of-steps : goal.shape_of-steps
-shape_of-steps c = omega (arith, c.loop-last.invariant.0, c.first_value-lists.auto)
-
-pub shape_of-order : goal.shape_of-order
-shape_of-order c = omega (arith, c.loop-last.invariant.0, c.first_value-lists.auto)
-
-pub shape_of-due : goal.shape_of-due
-shape_of-due c = omega (arith, c.loop-last.invariant.0, c.first_value-lists.auto)
-
-pub shape_of-later : goal.shape_of-later
-shape_of-later c = omega (arith, c.loop-last.invariant.0, c.first_value-lists.auto)
+    let next = c.next_value-lists in (as-long-then c.loop-last.invariant.0 next.ensures.long, λ g so ready. let inv = c.loop-last.invariant.1 g so ready in next.ensures.goes_on _ g inv.1 _ _ _ inv.0 c.if-lists-head.false)
 
 pub returns : goal.returns
 returns c =

@@ -1,5 +1,4 @@
 -- `solve_rounds` meets its contract: the invariant says that the rounds of all values up to `last` were carried out.
-use Prim.Native.Nat.{◌-◌, ◌≤◌}
 use Rattle.solver.specs.Solving.{Solving}
 use Rattle.visits.specs.Standing.{Setting, AsLong, Ready}
 use Rattle.filed.proofs.solve_rounds.Given as goal
@@ -10,7 +9,3 @@ invariant-loop-last l =
     × ((g : Setting l.n l.starts l.entries) → Solving l.n g.m g.owners l.marks g.costs g.froms g.tos 0 l.initial.values l.initial.steps l.initial.values l.initial.steps
     → Ready g 0 l.initial.lists.tail l.initial.lists l.initial.needs l.initial.values l.initial.steps l.initial.order l.initial.due l.initial.later
     → Solving l.n g.m g.owners l.marks g.costs g.froms g.tos l.last l.initial.values l.initial.steps l.values l.steps × Ready g l.last l.lists.tail l.lists l.needs l.values l.steps l.order l.due l.later)
-    × (l.last ≤ l.n)
-
-abbrev pub decreases-loop-last : goal.decreases-loop-last
-decreases-loop-last l = l.n - l.last

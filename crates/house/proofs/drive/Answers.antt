@@ -12,16 +12,16 @@ returns-then-lanes_of-eq0 c =
 pub drive_rows-requires : goal.drive_rows-requires
 drive_rows-requires c =
     let can : Drivable c.args.lanes (length c.args.reports.now) = some-drivable _ _ (λ none. c.if-lanes_of-eq0.false (c.lanes_of.ensures ∙ none)) in
-    let loaded = c.in-Accepted.ensures.taken _ refl in
-    ((_, loaded.rows), decoded-ascending _ _ (sym c.in-Accepted.ensures.answer) loaded.rows, can.few, can.paired)
+    let loaded = c.in-Ok.ensures.taken _ refl in
+    ((_, loaded.rows), decoded-ascending _ _ (sym c.in-Ok.ensures.answer) loaded.rows, can.few, can.paired)
 
-pub returns-in-Refused : goal.returns-in-Refused
-returns-in-Refused c =
+pub returns-in-Err : goal.returns-in-Err
+returns-in-Err c =
     let can : Drivable c.args.lanes (length c.args.reports.now) = some-drivable _ _ (λ none. c.if-lanes_of-eq0.false (c.lanes_of.ensures ∙ none)) in
-    rw c.refused-in-Refused.ensures (drive-refused _ _ _ _ _ (drivable-true can) _ (sym c.in-Refused.ensures.answer))
+    rw c.refused-in-Err.ensures (drive-refused _ _ _ _ _ (drivable-true can) _ (sym c.in-Err.ensures.answer))
 
-pub returns-in-Accepted : goal.returns-in-Accepted
-returns-in-Accepted c =
+pub returns-in-Ok : goal.returns-in-Ok
+returns-in-Ok c =
     let can : Drivable c.args.lanes (length c.args.reports.now) = some-drivable _ _ (λ none. c.if-lanes_of-eq0.false (c.lanes_of.ensures ∙ none)) in
-    let loaded = c.in-Accepted.ensures.taken _ refl in
-    drive-taken _ _ _ _ _ (drivable-true can) _ (sym c.in-Accepted.ensures.answer) loaded.rows c.drive_rows.ensures
+    let loaded = c.in-Ok.ensures.taken _ refl in
+    drive-taken _ _ _ _ _ (drivable-true can) _ (sym c.in-Ok.ensures.answer) loaded.rows c.drive_rows.ensures

@@ -3,17 +3,17 @@
 use Rattle.std.proofs.Common.{◌<◌, length, arith, rules}
 use Rattle.house.proofs.DrivingLaws.{lane-moved, lane-quiet, lane-refused, lanes-begin, lanes_end, moved-bound}
 use Rattle.house.proofs.drive_lanes.Goals as goal
-use Rattle.house.proofs.drive_lanes.Goals.{then-to+in-Taken, else-to}
+use Rattle.house.proofs.drive_lanes.Goals.{then-to+in-Ok, else-to}
 
 pub loop-lane-init : goal.loop-lane-init
 loop-lane-init c = lanes-begin _ _ _ _ _ _ _ _ _ _
 
-pub returns-in-Refused : goal.returns-in-Refused
-returns-in-Refused c =
+pub returns-in-Err : goal.returns-in-Err
+returns-in-Err c =
     let in-house : c.loop-lane.lane < length c.args.runs = search rules in
     rw c.refused.ensures
     (lane-refused c.loop-lane.invariant c.requires.4 c.loop-lane-test.true c.if-to.true in-house _
-    c.report_checked-reported.ensures _ c.in-Refused.is)
+    c.report_checked-reported.ensures _ c.in-Err.is)
 
 pub overflow_add-moved : goal.overflow_add-moved
 overflow_add-moved c = omega (arith, moved-bound c.loop-lane.invariant c.requires.4, c.requires.3)
@@ -25,8 +25,8 @@ loop-lane-preserved c =
     let row = c.requires.4 in
     let inside = c.loop-lane-test.true in
     elim c.if-to.branch [
-      | then-to+in-Taken w ↦
-          rw (w.after-is, w.moved-is) (lane-moved inv row inside w.if-to.true in-house _ w.report_checked-reported.ensures _ w.in-Taken.is)
+      | then-to+in-Ok w ↦
+          rw (w.after-is, w.moved-is) (lane-moved inv row inside w.if-to.true in-house _ w.report_checked-reported.ensures _ w.in-Ok.is)
       | else-to w ↦ rw (w.after-is, w.moved-is) (lane-quiet inv row inside w.if-to.false)
     ]
 

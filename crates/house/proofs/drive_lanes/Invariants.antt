@@ -6,6 +6,3 @@ use Rattle.house.proofs.drive_lanes.Given as goal
 
 abbrev pub invariant-loop-lane : goal.invariant-loop-lane
 invariant-loop-lane l = LanesPassed l.n l.m l.owners l.costs l.froms l.tos l.runs l.lanes l.reports l.plate l.after l.moved l.lane
-
-abbrev pub decreases-loop-lane : goal.decreases-loop-lane
-decreases-loop-lane l = l.lanes - l.lane

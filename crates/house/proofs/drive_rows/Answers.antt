@@ -7,10 +7,10 @@ use Rattle.house.proofs.drive_rows.Goals as goal
 pub drive_lanes-requires : goal.drive_lanes-requires
 drive_lanes-requires c =
     let pre = c.requires in
-    ((_, pre.0), pre.1, accepted-form _ pre.0.1 c.in-Accepted.ensures refl, pre.2, pre.3)
+    ((_, pre.0), pre.1, accepted-form _ pre.0.1 c.in-Ok.ensures refl, pre.2, pre.3)
 
-pub returns-in-Refused : goal.returns-in-Refused
-returns-in-Refused c = rw c.refused.ensures (rows-refused _ _ _ c.in-Refused.ensures _ refl)
+pub returns-in-Err : goal.returns-in-Err
+returns-in-Err c = rw c.refused.ensures (rows-refused _ _ _ c.in-Err.ensures _ refl)
 
-pub returns-in-Accepted : goal.returns-in-Accepted
-returns-in-Accepted c = rows-accepted _ _ _ c.in-Accepted.ensures refl c.drive_lanes.ensures
+pub returns-in-Ok : goal.returns-in-Ok
+returns-in-Ok c = rows-accepted _ _ _ c.in-Ok.ensures refl c.drive_lanes.ensures

@@ -5,6 +5,3 @@ use Rattle.house.proofs.take_out.Given as goal
 
 abbrev pub invariant-loop-lane : goal.invariant-loop-lane
 invariant-loop-lane l = (l.lane ≤ l.count) × (l.held ≡ copied l.runs no_runs l.lane)
-
-abbrev pub decreases-loop-lane : goal.decreases-loop-lane
-decreases-loop-lane l = l.count - l.lane

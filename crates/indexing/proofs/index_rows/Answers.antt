@@ -1,9 +1,9 @@
 -- `index_rows` meets its contract: rows of more than 3 positions or with one of rest are those of no small chart; of the others the squares hold
 -- the arena's moves, and their index is the arena's.
+use Rattle.std.specs.Prelude.{Ok}
 use mathlib.Core.Path.{sym, ap, ◌∙◌}
 use Rattle.rows.specs.RowsLaws.{rows-within}
 use Rattle.indexing.specs.IndexingLaws.{within-three, too_many, at_rest, some-meant, is-small}
-use Rattle.indexing.specs.declared.Indexed.TheVariants.{Index}
 use Rattle.indexing.proofs.index_rows.Goals as goal
 
 pub returns-then-n-gt3 : goal.returns-then-n-gt3
@@ -28,6 +28,6 @@ pub returns : goal.returns
 returns c =
     record {
       answer = λ a d.
-          ap Index c.index_of.ensures
+          ap Ok c.index_of.ensures
           ∙ is-small a _ _ _ _ _ _ _ d c.if-n-gt3.false (sym c.some_rest.ensures ∙ c.if-some_rest.false) _ _ c.square_of-meant.ensures c.square_of-disturbances.ensures;
     }

@@ -1,4 +1,4 @@
--- `cases` is safe and ends: it counts the cases.
+-- `cases` is safe: each case ends where the next begins or before.
 use Rattle.cases.specs.CaseLaws.{case-ordered}
 use Rattle.jobs_test.proofs.cases.Goals as goal
 

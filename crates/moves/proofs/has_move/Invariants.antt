@@ -1,5 +1,4 @@
 -- `has_move` meets its contract: the invariant says that none of the moves before the i-th is of the kind sought and leads from v to w.
-use Prim.Native.Nat.{◌-◌, ◌≤◌}
 use mathlib.Core.Path.{◌≡◌}
 use mathlib.Core.Bool.{false}
 use Rattle.rows.specs.Numbers.{number_at}
@@ -8,7 +7,4 @@ use Rattle.moves.specs.Moves.{leads_to}
 use Rattle.moves.proofs.has_move.Given as goal
 
 abbrev pub invariant-loop-i : goal.invariant-loop-i
-invariant-loop-i l = (l.first ≤ l.i) × (l.i ≤ l.m) × (found (number_at l.froms) (leads_to l.meant l.w l.costs l.tos) l.i l.v ≡ false)
-
-abbrev pub decreases-loop-i : goal.decreases-loop-i
-decreases-loop-i l = l.m - l.i
+invariant-loop-i l = found (number_at l.froms) (leads_to l.meant l.w l.costs l.tos) l.i l.v ≡ false

@@ -1,18 +1,11 @@
 -- `move_kind` meets its contract: each answer by the tests that led to it, which are those of the definition.
 use borrow.Author.Tests.{eq-eqb, ne_eqb}
-use native.Mathlib.Omega.{arith}
 use Rattle.rows.specs.RowsLaws.{rows-within}
 use Rattle.moves.specs.MoveLaws.{kind-is}
 use Rattle.moves.proofs.move_kind.Goals as goal
 
-pub first_from-first-requires : goal.first_from-first-requires
-first_from-first-requires c = let pre = c.requires in (pre.0.1.1.few-moves, pre.0.1.1.froms-row, pre.1)
-
 pub has_move-meant-requires : goal.has_move-meant-requires
 has_move-meant-requires c = (rows-within c.requires.0.1.1, c.requires.1, c.first_from-first.ensures)
-
-pub bounds-owners-v : goal.bounds-owners-v
-bounds-owners-v c = let pre = c.requires in omega (arith, pre.2, pre.0.1.1.owners-row)
 
 pub returns-then-meant : goal.returns-then-meant
 returns-then-meant c =

@@ -6,6 +6,3 @@ use Rattle.plate.proofs.read_rows.Given as goal
 
 abbrev pub invariant-loop-v : goal.invariant-loop-v
 invariant-loop-v l = (l.v ≤ l.n) × ColumnsRead l.v l.plate l.initial.values l.values l.initial.choices l.choices l.initial.steps l.steps
-
-abbrev pub decreases-loop-v : goal.decreases-loop-v
-decreases-loop-v l = l.n - l.v

@@ -19,15 +19,15 @@ returns-then-passes c =
 
 pub read_rows-requires : goal.read_rows-requires
 read_rows-requires c =
-    let touched = c.passes.ensures.touched in record { n_bound = (c.requires.0, sym c.examine_plate.ensures ∙ c.in-Good.is); n_in_bounds = (omega (arith, touched.value.same_length), omega (arith, touched.choice.same_length), omega (arith, touched.step.same_length)) }
+    let touched = c.passes.ensures.touched in record { n_bound = (c.requires.0, sym c.examine_plate.ensures ∙ c.in-Ok.is); n_in_bounds = (omega (arith, touched.value.same_length), omega (arith, touched.choice.same_length), omega (arith, touched.step.same_length)) }
 
-pub returns-in-Good : goal.returns-in-Good
+pub returns-in-Ok : goal.returns-in-Ok
 unfolding PlateLoadedAs
-returns-in-Good c =
-    record { loaded = (sym c.examine_plate.ensures ∙ c.in-Good.is, read-after c.passes.ensures.touched c.read_rows.ensures) }
+returns-in-Ok c =
+    record { loaded = (sym c.examine_plate.ensures ∙ c.in-Ok.is, read-after c.passes.ensures.touched c.read_rows.ensures) }
 
-pub returns-in-Bad : goal.returns-in-Bad
+pub returns-in-Err : goal.returns-in-Err
 unfolding PlateLoadedAs
-returns-in-Bad c =
+returns-in-Err c =
     let touched = c.passes.ensures.touched in
-    record { loaded = (sym c.examine_plate.ensures ∙ c.in-Bad.is, filled-after touched.value c.clear.ensures, filled-after touched.choice c.clear-in-Bad.ensures, filled-after touched.step c.clear-in-Bad-2.ensures) }
+    record { loaded = (sym c.examine_plate.ensures ∙ c.in-Err.is, filled-after touched.value c.clear.ensures, filled-after touched.choice c.clear-in-Err.ensures, filled-after touched.step c.clear-in-Err-2.ensures) }

@@ -4,7 +4,6 @@ use native.Mathlib.Omega.{arith}
 use mathlib.Core.Path.{◌≡◌, subst}
 use mathlib.Core.Bool.{true}
 use borrow.Author.Count.{below_more}
-use borrow.Author.Tests.{not-false}
 use Rattle.plate.specs.Formed.{position_good}
 use Rattle.plate.specs.Read.{ColumnsRead}
 use Rattle.plate_walk.specs.WalkLaws.{columns-none, columns-next, columns-touched, walk-stops, walk_ends}
@@ -13,22 +12,13 @@ use Rattle.plate_walk.proofs.walk.Goals as goal
 pub loop-v-init : goal.loop-v-init
 loop-v-init c = (omega arith, λ u l. absurd (omega arith), columns-none _ _ _ _)
 
-pub line_at-line-requires : goal.line_at-line-requires
-line_at-line-requires c =
+pub line_at-requires : goal.line_at-requires
+line_at-requires c =
     let pre = c.requires in
     (pre.0, c.loop-v-test.true, pre.4, pre.5, pre.6)
 
-pub shape_of-values-then-not-line : goal.shape_of-values-then-not-line
-shape_of-values-then-not-line c = c.loop-v.invariant.2.value.same_length
-
-pub shape_of-choices-then-not-line : goal.shape_of-choices-then-not-line
-shape_of-choices-then-not-line c = c.loop-v.invariant.2.choice.same_length
-
-pub shape_of-steps-then-not-line : goal.shape_of-steps-then-not-line
-shape_of-steps-then-not-line c = c.loop-v.invariant.2.step.same_length
-
-pub returns-then-not-line : goal.returns-then-not-line
-returns-then-not-line c = walk-stops (columns-touched c.loop-v.invariant.0 c.loop-v.invariant.2)
+pub returns-in_default : goal.returns-in_default
+returns-in_default c = walk-stops (columns-touched c.loop-v.invariant.0 c.loop-v.invariant.2)
 
 pub bounds-values-v : goal.bounds-values-v
 bounds-values-v c = omega (arith, c.loop-v.invariant.2.value.same_length)
@@ -42,9 +32,9 @@ bounds-steps-v c = omega (arith, c.loop-v.invariant.2.step.same_length)
 pub loop-v-preserved : goal.loop-v-preserved
 loop-v-preserved c =
     let turn = c.loop-v in
-    let line = c.line_at-line.ensures in
-    let good = not-false _ c.if-not-line.false in
-    (omega arith, below_more _ _ turn.invariant.1 (line.form good), columns-next (omega arith) (omega arith) (omega arith) line good turn.invariant.2)
+    let line = c.line_at.ensures in
+    let good = c.in-Some.is in
+    (omega arith, below_more _ _ turn.invariant.1 (line.form _ good), columns-next (omega arith) (omega arith) (omega arith) line good turn.invariant.2)
 
 pub shape_of-values : goal.shape_of-values
 shape_of-values c = c.loop-v.invariant.2.value.same_length

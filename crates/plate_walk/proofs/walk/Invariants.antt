@@ -8,6 +8,3 @@ use Rattle.plate_walk.proofs.walk.Given as goal
 
 abbrev pub invariant-loop-v : goal.invariant-loop-v
 invariant-loop-v l = (l.v ≤ l.n) × ((u : ℕ) → u < l.v → position_good l.n l.plate u ≡ true) × ColumnsRead l.v l.plate l.initial.values l.values l.initial.choices l.choices l.initial.steps l.steps
-
-abbrev pub decreases-loop-v : goal.decreases-loop-v
-decreases-loop-v l = l.n - l.v

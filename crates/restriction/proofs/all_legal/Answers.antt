@@ -1,6 +1,4 @@
 -- `all_legal` meets its contract: the invariant says that the choices below v are legal.
-use native.Mathlib.Nat.{le_antisymm}
-use native.Mathlib.Omega.{arith}
 use mathlib.Core.Path.{refl, sym, ap, ◌∙◌}
 use mathlib.Core.Bool.{not}
 use Rattle.search.specs.Below.{some_below, some_next, some-hit}
@@ -9,13 +7,10 @@ use Rattle.restriction.proofs.all_legal.Goals as goal
 
 pub loop-v-init : goal.loop-v-init
 unfolding some_below
-loop-v-init c = (omega arith, refl)
+loop-v-init c = refl
 
 pub returns-then-not-is_legal : goal.returns-then-not-is_legal
 returns-then-not-is_legal c = ap not (sym (some-hit _ _ _ c.loop-v-test.true (ap not (sym c.is_legal.ensures) ∙ (not_from_false _ c.if-not-is_legal.true))))
 
 pub loop-v-preserved : goal.loop-v-preserved
-loop-v-preserved c = (omega arith, rw (some_next, c.loop-v.invariant.1, ← c.is_legal.ensures, (not_from_true _ c.if-not-is_legal.false)))
-
-pub returns : goal.returns
-returns c = rw (← le_antisymm c.loop-v.invariant.0 c.loop-v-test.false, c.loop-v.invariant.1)
+loop-v-preserved c = rw (some_next, c.loop-v.invariant, ← c.is_legal.ensures, (not_from_true _ c.if-not-is_legal.false))

@@ -1,20 +1,10 @@
 -- `flag_owners` meets its contract: the invariant says that the row is filled up to v and has kept its length.
-use native.Mathlib.Nat.{le_antisymm}
-use native.Mathlib.Omega.{arith}
-use mathlib.Core.Path.{sym, ◌∙◌}
-use mathlib.Core.Bool.{true}
-use Rattle.rows.specs.Filling.{filled_next, filled_none}
-use Rattle.round.specs.Round.{ready-flag-first}
+use Rattle.std.proofs.Common.{arith}
+use Rattle.std.proofs.lemmas.Grind.{common_steps}
+use Rattle.rows.specs.Filling.{filled_more}
+use Rattle.round.specs.Round.{ready_flag}
 use Rattle.round.proofs.flag_owners.Goals as goal
 
-pub loop-v-init : goal.loop-v-init
-loop-v-init c = (omega arith, filled_none _ _)
-
 pub loop-v-preserved : goal.loop-v-preserved
-loop-v-preserved c = (omega arith, filled_next c.loop-v.invariant.1 true c.first_flag.result (omega arith) (ready-flag-first _ _ ∙ sym c.first_flag.ensures))
-
-pub shape_of-flags : goal.shape_of-flags
-shape_of-flags c = c.loop-v.invariant.1.same_length
-
-pub returns : goal.returns
-returns c = rw (← le_antisymm c.loop-v.invariant.0 c.loop-v-test.false) c.loop-v.invariant.1
+unfolding ready_flag
+loop-v-preserved c = filled_more _ _ _ _ _ c.loop-v.invariant (omega arith) (grind (arith, common_steps))

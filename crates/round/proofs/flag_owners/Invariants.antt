@@ -1,12 +1,8 @@
 -- `flag_owners` meets its contract: the invariant says that the row is filled up to v and has kept its length.
-use Prim.Native.Nat.{◌≤◌, ◌-◌}
 use mathlib.Core.Bool.{false}
 use Rattle.rows.specs.Rows.{Filled}
 use Rattle.round.specs.Round.{ready_flag}
 use Rattle.round.proofs.flag_owners.Given as goal
 
 abbrev pub invariant-loop-v : goal.invariant-loop-v
-invariant-loop-v l = (l.v ≤ l.n) × Filled l.initial.flags l.flags l.v (λ j. ready_flag l.owners j false)
-
-abbrev pub decreases-loop-v : goal.decreases-loop-v
-decreases-loop-v l = l.n - l.v
+invariant-loop-v l = Filled l.initial.flags l.flags l.v (λ j. ready_flag l.owners j false)

@@ -1,5 +1,4 @@
 -- `show` meets its contract: the invariant says that the row is filled up to v and has kept its length.
-use Prim.Native.Nat.{◌≤◌, ◌-◌}
 use lib.ListN.{get_or}
 use lib.Dec.{eqb}
 use Rattle.search.specs.Below.{bit}
@@ -7,7 +6,4 @@ use Rattle.rows.specs.Rows.{Filled}
 use Rattle.round.proofs.show.Given as goal
 
 abbrev pub invariant-loop-v : goal.invariant-loop-v
-invariant-loop-v l = (l.v ≤ l.n) × Filled l.initial.shows l.shows l.v (λ j. bit (eqb (get_or l.values j 0) l.k))
-
-abbrev pub decreases-loop-v : goal.decreases-loop-v
-decreases-loop-v l = l.n - l.v
+invariant-loop-v l = Filled l.initial.shows l.shows l.v (λ j. bit (eqb (get_or l.values j 0) l.k))

@@ -3,10 +3,10 @@ use mathlib.Core.Path.{ap, sym, ◌∙◌}
 use Rattle.run.specs.Running.{off_chart}
 use Rattle.run.proofs.off_chart.Goals as goal
 
-pub returns-in-Bad : goal.returns-in-Bad
+pub returns-in-Err : goal.returns-in-Err
 unfolding off_chart
-returns-in-Bad c = ap off_chart (sym c.in-Bad.is ∙ c.examine_plate.ensures)
+returns-in-Err c = ap off_chart (sym c.in-Err.is ∙ c.examine_plate.ensures)
 
-pub returns-in-Good : goal.returns-in-Good
+pub returns-in-Ok : goal.returns-in-Ok
 unfolding off_chart
-returns-in-Good c = ap off_chart (sym c.in-Good.is ∙ c.examine_plate.ensures)
+returns-in-Ok c = ap off_chart (sym c.in-Ok.is ∙ c.examine_plate.ensures)

@@ -13,15 +13,15 @@ returns-then-n-to c =
 pub report_accepted-requires : goal.report_accepted-requires
 report_accepted-requires c =
     let pre = c.requires in
-    let form = accepted-form _ pre.0.1 c.check_plate.ensures c.in-Accepted.is in
+    let form = accepted-form _ pre.0.1 c.check_plate.ensures c.in-Ok.is in
     ((_, pre.0), pre.1, form, c.if-n-run.false, c.if-n-to.false)
 
-pub returns-in-Refused : goal.returns-in-Refused
-returns-in-Refused c =
-    rw c.unmoved-in-Refused.ensures
-    (refused-report _ _ _ c.if-n-run.false c.if-n-to.false c.check_plate.ensures _ c.in-Refused.is)
+pub returns-in-Err : goal.returns-in-Err
+returns-in-Err c =
+    rw c.unmoved-in-Err.ensures
+    (refused-report _ _ _ c.if-n-run.false c.if-n-to.false c.check_plate.ensures _ c.in-Err.is)
 
-pub returns-in-Accepted : goal.returns-in-Accepted
-returns-in-Accepted c =
-    accepted-report _ _ _ c.if-n-run.false c.if-n-to.false c.check_plate.ensures c.in-Accepted.is
+pub returns-in-Ok : goal.returns-in-Ok
+returns-in-Ok c =
+    accepted-report _ _ _ c.if-n-run.false c.if-n-to.false c.check_plate.ensures c.in-Ok.is
     c.report_accepted.ensures

@@ -3,6 +3,7 @@ use native.Mathlib.Omega.{arith}
 use mathlib.Core.Path.{refl}
 use Rattle.checking.specs.CheckingLaws.{accepted-form}
 use Rattle.run.proofs.RunningLaws.{start-inside, start_outside, started_checked}
+use Rattle.search.proofs.HandedOn.{handed-on}
 use Rattle.run.proofs.start_rows.Goals as goal
 
 pub returns-then-n-position : goal.returns-then-n-position
@@ -11,14 +12,15 @@ returns-then-n-position c = rw c.off_chart.ensures (start_outside _ _ (omega (ar
 pub begin-requires : goal.begin-requires
 begin-requires c =
     let pre = c.requires in
-    (pre.0.1.few-positions, accepted-form _ pre.0.1 c.check_plate.ensures c.in-Accepted.is, omega (arith, c.if-n-position.false))
+    (pre.0.1.few-positions, accepted-form _ pre.0.1 c.check_plate.ensures c.in_ok-check_plate.was, omega (arith, c.if-n-position.false))
 
-pub returns-in-Refused : goal.returns-in-Refused
+pub returns-in_err-check_plate : goal.returns-in_err-check_plate
 unfolding started_checked
-returns-in-Refused c =
-    start-inside _ _ c.if-n-position.false c.check_plate.ensures c.in-Refused.is refl
+returns-in_err-check_plate c =
+    rw (handed-on _ c.from_residual.ensures.1)
+    (start-inside _ _ c.if-n-position.false c.check_plate.ensures c.in_err-check_plate.was refl)
 
-pub returns-in-Accepted : goal.returns-in-Accepted
+pub returns : goal.returns
 unfolding started_checked
-returns-in-Accepted c =
-    start-inside _ _ c.if-n-position.false c.check_plate.ensures c.in-Accepted.is c.begin.ensures
+returns c =
+    start-inside _ _ c.if-n-position.false c.check_plate.ensures c.in_ok-check_plate.was c.begin.ensures

@@ -13,12 +13,6 @@ returns-then-count-eq0 c =
     let small : c.args.last + 1 < 65535 = omega (arith, c.requires) in
     record { goes_on = λ so_far some. absurd (some refl); stops = λ so_far none. solving-stops so_far small noted round c.if-count-eq0.true }
 
-pub settle-requires : goal.settle-requires
-settle-requires c =
-    let flagged = c.flag_disturbed.auto in
-    let placed = c.place-count.auto in
-    (c.requires.0, c.requires.1, omega (arith, c), omega (arith, c), omega (arith, c, flagged), omega (arith, c, placed), omega (arith, c, placed))
-
 pub returns : goal.returns
 returns c =
     let noted = c.flag_disturbed.ensures in

@@ -1,6 +1,5 @@
 -- `solve` meets its contract: the invariant says that the rows hold the table that the value after `last` begins with. A
 -- value whose first round places nobody is the end, and so is the n-th.
-use Prim.Native.Nat.{◌≤◌, ◌-◌}
 use mathlib.Core.Path.{◌≡◌}
 use lib.ListN.{length}
 use Rattle.solver.specs.Solving.{Solving}
@@ -8,8 +7,4 @@ use Rattle.solver.proofs.solve.Given as goal
 
 abbrev pub invariant-loop-last : goal.invariant-loop-last
 invariant-loop-last l =
-    (l.last ≤ l.n) × (length l.flags ≡ 512) × (length l.values ≡ length l.initial.values) × (length l.steps ≡ length l.initial.steps)
-    × Solving l.n l.m l.owners l.marks l.costs l.froms l.tos l.last l.initial.values l.initial.steps l.values l.steps
-
-abbrev pub decreases-loop-last : goal.decreases-loop-last
-decreases-loop-last l = l.n - l.last
+    (length l.flags ≡ 512) × Solving l.n l.m l.owners l.marks l.costs l.froms l.tos l.last l.initial.values l.initial.steps l.values l.steps

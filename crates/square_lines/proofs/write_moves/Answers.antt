@@ -2,8 +2,7 @@
 -- as it was. A turn writes the part behind them twice.
 use Prim.Native.Nat.{ℕ, ◌+◌, ◌*◌, ◌≤◌}
 use native.Mathlib.Omega.{arith}
-use native.Mathlib.Nat.{le_antisymm}
-use mathlib.Core.Path.{◌≡◌, refl, subst}
+use mathlib.Core.Path.{◌≡◌}
 use mathlib.Core.List.{List, ◌++◌}
 use lib.ListN.{length, length-take, length-drop}
 use Rattle.search.specs.Below.{count_below}
@@ -12,37 +11,21 @@ use Rattle.line.specs.Written.{Written, written-length}
 use Rattle.squares.specs.Held.{cell}
 use Rattle.numbering.specs.Squares.{target_lines}
 use Rattle.square_lines.specs.Lines.{move_lines}
-use Rattle.square_lines.specs.LinesLaws.{behind, MovesWritten, moves-none, moves-all, rows_fit, moves-half, moves_more}
+use Rattle.square_lines.specs.LinesLaws.{behind, moves-none, rows_fit, moves-half, moves_more}
 use Rattle.square_lines.proofs.write_moves.Goals as goal
 
 pub loop-v-init : goal.loop-v-init
-loop-v-init c = (omega arith, refl, moves-none _ _ _ _)
-
-pub slice_bounds-write_targets-count : goal.slice_bounds-write_targets-count
-slice_bounds-write_targets-count c = let fits : let a = c.args in c.loop-v.at + count_below (cell a.meant c.loop-v.v) a.n * 12 + count_below (cell a.disturbances c.loop-v.v) a.n * 12 ≤ length a.lines.now = rows_fit c.args.n c.args.meant c.args.disturbances c.args.lines.now c.loop-v.v c.loop-v.at c.loop-v.lines c.loop-v.invariant.2 c.loop-v-test.true c.requires.1 in
-    omega (arith, fits)
+loop-v-init c = moves-none _ _ _ _
 
 pub write_targets-at-requires : goal.write_targets-at-requires
-write_targets-at-requires c = let fits : let a = c.args in c.loop-v.at + count_below (cell a.meant c.loop-v.v) a.n * 12 + count_below (cell a.disturbances c.loop-v.v) a.n * 12 ≤ length a.lines.now = rows_fit c.args.n c.args.meant c.args.disturbances c.args.lines.now c.loop-v.v c.loop-v.at c.loop-v.lines c.loop-v.invariant.2 c.loop-v-test.true c.requires.1 in
+write_targets-at-requires c = let fits : let a = c.args in c.loop-v.at + count_below (cell a.meant c.loop-v.v) a.n * 12 + count_below (cell a.disturbances c.loop-v.v) a.n * 12 ≤ length a.lines.now = rows_fit c.args.n c.args.meant c.args.disturbances c.args.lines.now c.loop-v.v c.loop-v.at c.loop-v.lines c.loop-v.invariant c.loop-v-test.true c.requires.1 in
     let room = fits in (omega arith, omega arith, simp (length-take, length-drop) (omega arith))
-
-pub overflow_add-at : goal.overflow_add-at
-overflow_add-at c = let fits : let a = c.args in c.loop-v.at + count_below (cell a.meant c.loop-v.v) a.n * 12 + count_below (cell a.disturbances c.loop-v.v) a.n * 12 ≤ length a.lines.now = rows_fit c.args.n c.args.meant c.args.disturbances c.args.lines.now c.loop-v.v c.loop-v.at c.loop-v.lines c.loop-v.invariant.2 c.loop-v-test.true c.requires.1 in
-    omega (arith, fits)
-
-pub slice_bounds-write_targets-count-in-loop-v : goal.slice_bounds-write_targets-count-in-loop-v
-slice_bounds-write_targets-count-in-loop-v c = let fits : let a = c.args in c.loop-v.at + count_below (cell a.meant c.loop-v.v) a.n * 12 + count_below (cell a.disturbances c.loop-v.v) a.n * 12 ≤ length a.lines.now = rows_fit c.args.n c.args.meant c.args.disturbances c.args.lines.now c.loop-v.v c.loop-v.at c.loop-v.lines c.loop-v.invariant.2 c.loop-v-test.true c.requires.1 in
-    let between : List ℕ = behind c.loop-v.at c.loop-v.lines c.write_targets-at.new.lines in
-    let half : let a = c.args in Written (joined (move_lines a.n a.meant a.disturbances) c.loop-v.v ++ target_lines 77 c.loop-v.v (cell a.meant c.loop-v.v) a.n) (c.loop-v.at + c.write_targets-at.result) a.lines.now (between) = moves-half c.args.n c.args.meant c.args.disturbances c.args.lines.now c.loop-v.v c.loop-v.at c.loop-v.lines c.loop-v.invariant.2 c.loop-v-test.true c.requires.1
-    _ c.write_targets-at.result c.write_targets-at.ensures in
-    let same : length (between) ≡ length c.args.lines.now = written-length _ _ c.args.lines.now (between) (half) (omega (arith, fits, c.write_targets-at.ensures.bytes)) in
-    omega (arith, fits, same, c.write_targets-at.ensures.bytes)
 
 pub write_targets-at-requires-in-loop-v : goal.write_targets-at-requires-in-loop-v
 write_targets-at-requires-in-loop-v c =
-    let fits : let a = c.args in c.loop-v.at + count_below (cell a.meant c.loop-v.v) a.n * 12 + count_below (cell a.disturbances c.loop-v.v) a.n * 12 ≤ length a.lines.now = rows_fit c.args.n c.args.meant c.args.disturbances c.args.lines.now c.loop-v.v c.loop-v.at c.loop-v.lines c.loop-v.invariant.2 c.loop-v-test.true c.requires.1 in
+    let fits : let a = c.args in c.loop-v.at + count_below (cell a.meant c.loop-v.v) a.n * 12 + count_below (cell a.disturbances c.loop-v.v) a.n * 12 ≤ length a.lines.now = rows_fit c.args.n c.args.meant c.args.disturbances c.args.lines.now c.loop-v.v c.loop-v.at c.loop-v.lines c.loop-v.invariant c.loop-v-test.true c.requires.1 in
     let between : List ℕ = behind c.loop-v.at c.loop-v.lines c.write_targets-at.new.lines in
-    let half : let a = c.args in Written (joined (move_lines a.n a.meant a.disturbances) c.loop-v.v ++ target_lines 77 c.loop-v.v (cell a.meant c.loop-v.v) a.n) (c.loop-v.at + c.write_targets-at.result) a.lines.now (between) = moves-half c.args.n c.args.meant c.args.disturbances c.args.lines.now c.loop-v.v c.loop-v.at c.loop-v.lines c.loop-v.invariant.2 c.loop-v-test.true c.requires.1
+    let half : let a = c.args in Written (joined (move_lines a.n a.meant a.disturbances) c.loop-v.v ++ target_lines 77 c.loop-v.v (cell a.meant c.loop-v.v) a.n) (c.loop-v.at + c.write_targets-at.result) a.lines.now (between) = moves-half c.args.n c.args.meant c.args.disturbances c.args.lines.now c.loop-v.v c.loop-v.at c.loop-v.lines c.loop-v.invariant c.loop-v-test.true c.requires.1
     _ c.write_targets-at.result c.write_targets-at.ensures in
     let same : length (between) ≡ length c.args.lines.now = written-length _ _ c.args.lines.now (between) (half) (omega (arith, fits, c.write_targets-at.ensures.bytes)) in
     let room = fits in
@@ -50,22 +33,12 @@ write_targets-at-requires-in-loop-v c =
     let first = c.write_targets-at.ensures.bytes in
     (omega arith, omega arith, simp (length-take, length-drop) (omega arith))
 
-pub overflow_add-at-in-loop-v : goal.overflow_add-at-in-loop-v
-overflow_add-at-in-loop-v c = let fits : let a = c.args in c.loop-v.at + count_below (cell a.meant c.loop-v.v) a.n * 12 + count_below (cell a.disturbances c.loop-v.v) a.n * 12 ≤ length a.lines.now = rows_fit c.args.n c.args.meant c.args.disturbances c.args.lines.now c.loop-v.v c.loop-v.at c.loop-v.lines c.loop-v.invariant.2 c.loop-v-test.true c.requires.1 in
-    omega (arith, fits, c.write_targets-at.ensures.bytes, c.write_targets-at-in-loop-v.ensures.bytes)
-
 pub loop-v-preserved : goal.loop-v-preserved
 loop-v-preserved c =
-    let fits : let a = c.args in c.loop-v.at + count_below (cell a.meant c.loop-v.v) a.n * 12 + count_below (cell a.disturbances c.loop-v.v) a.n * 12 ≤ length a.lines.now = rows_fit c.args.n c.args.meant c.args.disturbances c.args.lines.now c.loop-v.v c.loop-v.at c.loop-v.lines c.loop-v.invariant.2 c.loop-v-test.true c.requires.1 in
+    let fits : let a = c.args in c.loop-v.at + count_below (cell a.meant c.loop-v.v) a.n * 12 + count_below (cell a.disturbances c.loop-v.v) a.n * 12 ≤ length a.lines.now = rows_fit c.args.n c.args.meant c.args.disturbances c.args.lines.now c.loop-v.v c.loop-v.at c.loop-v.lines c.loop-v.invariant c.loop-v-test.true c.requires.1 in
     let between : List ℕ = behind c.loop-v.at c.loop-v.lines c.write_targets-at.new.lines in
-    let half : let a = c.args in Written (joined (move_lines a.n a.meant a.disturbances) c.loop-v.v ++ target_lines 77 c.loop-v.v (cell a.meant c.loop-v.v) a.n) (c.loop-v.at + c.write_targets-at.result) a.lines.now (between) = moves-half c.args.n c.args.meant c.args.disturbances c.args.lines.now c.loop-v.v c.loop-v.at c.loop-v.lines c.loop-v.invariant.2 c.loop-v-test.true c.requires.1
+    let half : let a = c.args in Written (joined (move_lines a.n a.meant a.disturbances) c.loop-v.v ++ target_lines 77 c.loop-v.v (cell a.meant c.loop-v.v) a.n) (c.loop-v.at + c.write_targets-at.result) a.lines.now (between) = moves-half c.args.n c.args.meant c.args.disturbances c.args.lines.now c.loop-v.v c.loop-v.at c.loop-v.lines c.loop-v.invariant c.loop-v-test.true c.requires.1
     _ c.write_targets-at.result c.write_targets-at.ensures in
     let room = fits in
-    let more = moves_more c.args.n c.args.meant c.args.disturbances c.args.lines.now c.loop-v.v c.loop-v.at c.loop-v.lines c.loop-v.invariant.2 c.loop-v-test.true c.requires.1 (between) _ _ _ c.write_targets-at.ensures.bytes (half) c.write_targets-at-in-loop-v.ensures in
-    (omega arith, written-length _ _ c.args.lines.now _ more.lines (omega (arith, room, c.write_targets-at.ensures.bytes, c.write_targets-at-in-loop-v.ensures.bytes)), more)
-
-pub returns : goal.returns
-returns c =
-    let a = c.args in
-    let all = subst (λ (v : ℕ). MovesWritten a.n a.meant a.disturbances v a.lines.now c.loop-v.lines c.loop-v.at) (le_antisymm c.loop-v.invariant.0 c.loop-v-test.false) c.loop-v.invariant.2 in
-    moves-all a.n a.meant a.disturbances a.lines.now c.loop-v.at c.loop-v.lines all
+    let more = moves_more c.args.n c.args.meant c.args.disturbances c.args.lines.now c.loop-v.v c.loop-v.at c.loop-v.lines c.loop-v.invariant c.loop-v-test.true c.requires.1 (between) _ _ _ c.write_targets-at.ensures.bytes (half) c.write_targets-at-in-loop-v.ensures in
+    more

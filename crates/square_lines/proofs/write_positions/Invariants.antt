@@ -1,15 +1,10 @@
 -- `write_positions` meets its contract. The invariant: the lines of the positions below v are written, and behind them the buffer is as it
 -- was. A turn writes the part behind them.
-use Prim.Native.Nat.{◌*◌, ◌-◌, ◌≤◌}
-use mathlib.Core.Path.{◌≡◌}
-use lib.ListN.{length}
+use Prim.Native.Nat.{◌*◌}
 use Rattle.line.specs.Joined.{joined}
 use Rattle.line.specs.Written.{Written}
 use Rattle.square_lines.specs.Lines.{owner_line}
 use Rattle.square_lines.proofs.write_positions.Given as goal
 
 abbrev pub invariant-loop-v : goal.invariant-loop-v
-invariant-loop-v l = (l.v ≤ l.n) × (length l.lines ≡ length l.initial.lines) × Written (joined (owner_line l.owners l.marks) l.v) (l.v * 12) l.initial.lines l.lines
-
-abbrev pub decreases-loop-v : goal.decreases-loop-v
-decreases-loop-v l = l.n - l.v
+invariant-loop-v l = Written (joined (owner_line l.owners l.marks) l.v) (l.v * 12) l.initial.lines l.lines

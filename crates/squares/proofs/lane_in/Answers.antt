@@ -1,12 +1,9 @@
--- `lane_in` meets its contract: either answer by the test that led to it.
-use Rattle.search.proofs.Cases.{cases}
+-- `lane_in` meets its contract, whichever way the test goes.
+use Rattle.std.proofs.Common.{arith}
+use Rattle.std.proofs.lemmas.Bool.Decides.{nat_tests}
 use Rattle.numbering.specs.Squares.{lane_in}
 use Rattle.squares.proofs.lane_in.Goals as goal
 
-pub returns-then-d-console_digits : goal.returns-then-d-console_digits
+pub returns : goal.returns
 unfolding lane_in
-returns-then-d-console_digits c = simp (← c.console_digits.ensures) (search cases)
-
-pub returns-else-d-console_digits : goal.returns-else-d-console_digits
-unfolding lane_in
-returns-else-d-console_digits c = simp (← c.console_digits.ensures) (search cases)
+returns c = grind (arith, nat_tests, c.from.ensures, c.console_digits.ensures)

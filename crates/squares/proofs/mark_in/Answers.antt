@@ -1,12 +1,9 @@
--- `mark_in` meets its contract: either answer by the test that led to it.
-use Rattle.search.proofs.Cases.{cases}
+-- `mark_in` meets its contract, whichever way the test goes.
+use Rattle.std.proofs.Common.{arith}
+use Rattle.std.proofs.lemmas.Bool.Decides.{nat_tests}
 use Rattle.numbering.specs.Squares.{mark_in}
 use Rattle.squares.proofs.mark_in.Goals as goal
 
-pub returns-then-rest_in-t : goal.returns-then-rest_in-t
+pub returns : goal.returns
 unfolding mark_in
-returns-then-rest_in-t c = simp (← c.rest_in.ensures) (search cases)
-
-pub returns-else-rest_in-t : goal.returns-else-rest_in-t
-unfolding mark_in
-returns-else-rest_in-t c = simp (← c.rest_in.ensures) (search cases)
+returns c = grind (arith, nat_tests, c.from.ensures, c.rest_in.ensures)

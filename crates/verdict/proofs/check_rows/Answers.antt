@@ -7,6 +7,7 @@ use lib.ListN.{length-replicate}
 use Rattle.rows.specs.RowsLaws.{rows-within}
 use Rattle.verdict.specs.Ranks.{ranked-row}
 use Rattle.verdict.specs.RowsCheckedLaws.{fault-checked, header-checked, sound-fits}
+use Rattle.search.proofs.HandedOn.{handed-on}
 use Rattle.verdict.proofs.check_rows.Goals as goal
 
 pub first_fault-requires : goal.first_fault-requires
@@ -18,14 +19,14 @@ first_fault-requires c =
 pub header_fault-requires : goal.header_fault-requires
 header_fault-requires c =
     let pre = c.requires in
-    (pre.0.1.few-positions, pre.3, pre.5, sound-fits _ _ _ pre.2 (sym c.in-Sound.is ∙ c.first_fault.ensures))
+    (pre.0.1.few-positions, pre.3, pre.5, sound-fits _ _ _ pre.2 (sym c.in_ok-first_fault.was ∙ c.first_fault.ensures))
 
-pub returns-in-Fault : goal.returns-in-Fault
-returns-in-Fault c =
+pub returns-in_err-first_fault : goal.returns-in_err-first_fault
+returns-in_err-first_fault c =
     let pre = c.requires in
-    fault-checked _ _ _ pre.2 _ _ _ (sym c.in-Fault.is ∙ c.first_fault.ensures)
+    rw (handed-on _ c.from_residual.ensures.1) (fault-checked _ _ _ pre.2 _ _ _ (sym c.in_err-first_fault.was ∙ c.first_fault.ensures))
 
-pub returns-in-Sound : goal.returns-in-Sound
-returns-in-Sound c =
+pub returns : goal.returns
+returns c =
     let pre = c.requires in
-    header-checked _ _ _ pre.2 _ _ (sym c.in-Sound.is ∙ c.first_fault.ensures) c.header_fault.ensures
+    header-checked _ _ _ pre.2 _ _ (sym c.in_ok-first_fault.was ∙ c.first_fault.ensures) c.header_fault.ensures

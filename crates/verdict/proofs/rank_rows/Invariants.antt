@@ -5,6 +5,3 @@ use Rattle.verdict.proofs.rank_rows.Given as goal
 
 abbrev pub invariant-loop-v : goal.invariant-loop-v
 invariant-loop-v l = (l.v ≤ l.n) × RowsRanked l.v l.values l.steps l.initial.ranks l.ranks
-
-abbrev pub decreases-loop-v : goal.decreases-loop-v
-decreases-loop-v l = l.n - l.v

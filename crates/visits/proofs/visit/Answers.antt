@@ -7,7 +7,7 @@ use Rattle.filing.specs.Filing.{start_of}
 use Rattle.filing.specs.FilingLaws.{start-most, start-rises}
 use Rattle.visits.specs.Lists.{listed-most}
 use Rattle.visits.specs.Standing.{Wide, Progress}
-use Rattle.visits.specs.VisitLaws.{as-long-same, as-long-wide, seen_at, to_inside, entries_from, entries-to, visit-none, visit-turn, visit-done, entry-inside, entry-needs, order-room, later-room}
+use Rattle.visits.specs.VisitLaws.{as-long-same, as-long-wide, seen_at, entries_from, entries-to, visit-none, visit-turn, visit-done, entry-inside, entry-needs, order-room, later-room}
 use Rattle.visits.proofs.visit.Goals as goal
 
 pub offset_bounds-order-head : goal.offset_bounds-order-head
@@ -18,47 +18,6 @@ pub bounds-order-head : goal.bounds-order-head
 bounds-order-head c = let head-inside : c.args.head < c.requires.0.0 = omega (arith, listed-most c.requires.0.1.1.standing.placed, c.requires.1) in
     omega (arith, head-inside, c.requires.0.1.1.wide.order_row)
 
-pub overflow_cast-to : goal.overflow_cast-to
-overflow_cast-to c = let position : ℕ = get_or c.args.order.now c.args.head 0 in
-    let position-inside : position < c.requires.0.0 = to_inside c.requires.0.1.0 c.requires.0.1.1 c.requires.1 in
-    omega (arith, position-inside, c.requires.0.1.0.few-positions)
-
-pub overflow_add-end : goal.overflow_add-end
-overflow_add-end c = let position : ℕ = get_or c.args.order.now c.args.head 0 in
-    let position-inside : position < c.requires.0.0 = to_inside c.requires.0.1.0 c.requires.0.1.1 c.requires.1 in
-    omega (arith, position-inside, c.requires.0.1.0.few-positions)
-
-pub offset_bounds-starts-to : goal.offset_bounds-starts-to
-offset_bounds-starts-to c = let position : ℕ = get_or c.args.order.now c.args.head 0 in
-    let position-inside : position < c.requires.0.0 = to_inside c.requires.0.1.0 c.requires.0.1.1 c.requires.1 in
-    omega (arith, position-inside, c.requires.0.1.0.few-positions)
-
-pub bounds-starts-to : goal.bounds-starts-to
-bounds-starts-to c = let position : ℕ = get_or c.args.order.now c.args.head 0 in
-    let position-inside : position < c.requires.0.0 = to_inside c.requires.0.1.0 c.requires.0.1.1 c.requires.1 in
-    omega (arith, position-inside, c.requires.0.1.0.starts-row)
-
-pub overflow_cast-end : goal.overflow_cast-end
-overflow_cast-end c = let position : ℕ = get_or c.args.order.now c.args.head 0 in
-    let ends_at : get_or c.args.starts.now (position + 1) 0 ≡ start_of c.requires.0.1.0.tos c.requires.0.1.0.m (position + 1) = entries-to c.requires.0.1.0 c.requires.0.1.1 c.requires.1 in
-    let ends-most : get_or c.args.starts.now (position + 1) 0 ≤ c.requires.0.1.0.m = rw (ends_at) (start-most c.requires.0.1.0.tos c.requires.0.1.0.m (position + 1)) in
-    omega (arith, ends-most, c.requires.0.1.0.few-moves)
-
-pub offset_bounds-starts-to-2 : goal.offset_bounds-starts-to-2
-offset_bounds-starts-to-2 c = let position : ℕ = get_or c.args.order.now c.args.head 0 in
-    let position-inside : position < c.requires.0.0 = to_inside c.requires.0.1.0 c.requires.0.1.1 c.requires.1 in
-    omega (arith, position-inside, c.requires.0.1.0.few-positions)
-
-pub bounds-starts-to-2 : goal.bounds-starts-to-2
-bounds-starts-to-2 c = let position : ℕ = get_or c.args.order.now c.args.head 0 in
-    let position-inside : position < c.requires.0.0 = to_inside c.requires.0.1.0 c.requires.0.1.1 c.requires.1 in
-    omega (arith, position-inside, c.requires.0.1.0.starts-row)
-
-pub overflow_cast-j : goal.overflow_cast-j
-overflow_cast-j c = let position : ℕ = get_or c.args.order.now c.args.head 0 in
-    let starts-at : get_or c.args.starts.now (position) 0 ≡ start_of c.requires.0.1.0.tos c.requires.0.1.0.m (position) = entries_from c.requires.0.1.0 c.requires.0.1.1 c.requires.1 in
-    omega (arith, starts-at, start-most c.requires.0.1.0.tos c.requires.0.1.0.m (position), c.requires.0.1.0.few-moves)
-
 pub loop-j-init : goal.loop-j-init
 loop-j-init c =
     let position : ℕ = get_or c.args.order.now c.args.head 0 in (
@@ -68,25 +27,11 @@ loop-j-init c =
           (omega arith, rw at (start-rises g.tos g.m (position) (position + 1) (omega arith)), visit-none g ready more at),
     )
 
-pub offset_bounds-entries-j : goal.offset_bounds-entries-j
-offset_bounds-entries-j c = let position : ℕ = get_or c.args.order.now c.args.head 0 in
-    let ends_at : get_or c.args.starts.now (position + 1) 0 ≡ start_of c.requires.0.1.0.tos c.requires.0.1.0.m (position + 1) = entries-to c.requires.0.1.0 c.requires.0.1.1 c.requires.1 in
-    let ends-most : get_or c.args.starts.now (position + 1) 0 ≤ c.requires.0.1.0.m = rw (ends_at) (start-most c.requires.0.1.0.tos c.requires.0.1.0.m (position + 1)) in
-    omega (arith, ends-most, c.loop-j-test.true, c.requires.0.1.0.few-moves)
-
 pub bounds-entries-j : goal.bounds-entries-j
 bounds-entries-j c = let position : ℕ = get_or c.args.order.now c.args.head 0 in
     let ends_at : get_or c.args.starts.now (position + 1) 0 ≡ start_of c.requires.0.1.0.tos c.requires.0.1.0.m (position + 1) = entries-to c.requires.0.1.0 c.requires.0.1.1 c.requires.1 in
     let ends-most : get_or c.args.starts.now (position + 1) 0 ≤ c.requires.0.1.0.m = rw (ends_at) (start-most c.requires.0.1.0.tos c.requires.0.1.0.m (position + 1)) in
     omega (arith, ends-most, c.loop-j-test.true, c.requires.0.1.0.entries-row)
-
-pub overflow_cast-entries : goal.overflow_cast-entries
-overflow_cast-entries c =
-    let position : ℕ = get_or c.args.order.now c.args.head 0 in
-    let ends_at : get_or c.args.starts.now (position + 1) 0 ≡ start_of c.requires.0.1.0.tos c.requires.0.1.0.m (position + 1) = entries-to c.requires.0.1.0 c.requires.0.1.1 c.requires.1 in
-    let so_far : Progress c.requires.0.1.0 c.args.k c.args.s (seen_at c.requires.0.1.0 c.args.order.now c.args.head (position) c.loop-j.j) c.args.lists c.args.needs.now c.args.values.now c.args.steps.now c.args.order.now c.loop-j.grown c.loop-j.needs c.loop-j.values c.loop-j.steps c.loop-j.order c.loop-j.due c.loop-j.later = (c.loop-j.invariant.1 _ c.requires.0.1.0 c.requires.0.1.1 c.requires.1).2 in
-    let high : c.loop-j.j < start_of c.requires.0.1.0.tos c.requires.0.1.0.m (position + 1) = omega (arith, ends_at, c.loop-j-test.true) in
-    omega (arith, entry-inside c.requires.0.1.0 c.requires.0.1.1 c.requires.1 (so_far) (c.loop-j.invariant.1 _ c.requires.0.1.0 c.requires.0.1.1 c.requires.1).0 high, c.requires.0.1.0.few-positions)
 
 pub look-grown-requires : goal.look-grown-requires
 look-grown-requires c =
@@ -102,15 +47,6 @@ look-grown-requires c =
     let w = wide in
     let few = g.few-positions in record { e_bound = (omega arith, omega (arith, w.needs-row), entry-needs g ready c.requires.1 (so_far) low high, ready.small, omega (arith, w.values-row), omega (arith, w.steps-row), omega (arith, w.due-row)); tail_bound = (omega (arith, listed-most (so_far).state.placed), omega (arith, listed-most (so_far).state.waiting), order-room g ready c.requires.1 (so_far) low high w, later-room g ready c.requires.1 (so_far) low high w) }
 
-pub overflow_add-j : goal.overflow_add-j
-overflow_add-j c = let position : ℕ = get_or c.args.order.now c.args.head 0 in
-    let ends_at : get_or c.args.starts.now (position + 1) 0 ≡ start_of c.requires.0.1.0.tos c.requires.0.1.0.m (position + 1) = entries-to c.requires.0.1.0 c.requires.0.1.1 c.requires.1 in
-    let ends-most : get_or c.args.starts.now (position + 1) 0 ≤ c.requires.0.1.0.m = rw (ends_at) (start-most c.requires.0.1.0.tos c.requires.0.1.0.m (position + 1)) in
-    omega (arith, ends-most, c.loop-j-test.true, c.requires.0.1.0.few-moves)
-
-pub loop-j-smaller : goal.loop-j-smaller
-loop-j-smaller c = omega (arith, c.loop-j-test.true)
-
 pub loop-j-preserved : goal.loop-j-preserved
 loop-j-preserved c =
     let position : ℕ = get_or c.args.order.now c.args.head 0 in
@@ -122,24 +58,6 @@ loop-j-preserved c =
           let high : c.loop-j.j < start_of g.tos g.m (position + 1) = omega (arith, entries-to g ready more, c.loop-j-test.true) in
           (omega (arith, inv.0), omega arith, visit-turn g ready more inv.2 inv.0 high (as-long-wide ready.wide long) look.ensures),
     )
-
-pub shape_of-needs : goal.shape_of-needs
-shape_of-needs c = omega (arith, c.loop-j.invariant.0)
-
-pub shape_of-values : goal.shape_of-values
-shape_of-values c = omega (arith, c.loop-j.invariant.0)
-
-pub shape_of-steps : goal.shape_of-steps
-shape_of-steps c = omega (arith, c.loop-j.invariant.0)
-
-pub shape_of-order : goal.shape_of-order
-shape_of-order c = omega (arith, c.loop-j.invariant.0)
-
-pub shape_of-due : goal.shape_of-due
-shape_of-due c = omega (arith, c.loop-j.invariant.0)
-
-pub shape_of-later : goal.shape_of-later
-shape_of-later c = omega (arith, c.loop-j.invariant.0)
 
 pub returns : goal.returns
 returns c =

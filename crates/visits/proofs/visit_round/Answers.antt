@@ -3,28 +3,15 @@ use native.Mathlib.Omega.{arith}
 use Rattle.std.proofs.Common.{ℕ}
 use Rattle.visits.specs.Standing.{Setting}
 use mathlib.Core.Path.{◌≡◌}
-use Rattle.visits.specs.Lists.{listed-most}
 use Rattle.visits.specs.Standing.{Ready}
-use Rattle.visits.specs.VisitLaws.{as-long-same, as-long-then, as-long-wide, ready-next, round-none, progress-then}
+use Rattle.visits.specs.VisitLaws.{as-long-then, as-long-wide, ready-next, progress-then}
 use Rattle.visits.proofs.visit_round.Goals as goal
-
-pub loop-at-init : goal.loop-at-init
-loop-at-init c = (
-  as-long-same,
-  λ n g ready. (omega arith, ready.started, round-none g ready),
-)
 
 pub visit-grown-requires : goal.visit-grown-requires
 visit-grown-requires c =
     let ready_at : (n : ℕ) (g : Setting n c.args.starts.now c.args.entries.now) → Ready g c.args.k c.args.head c.args.lists c.args.needs.now c.args.values.now c.args.steps.now c.args.order.now c.args.due.now c.args.later.now → Ready g c.args.k c.loop-at.at c.loop-at.grown c.loop-at.needs c.loop-at.values c.loop-at.steps c.loop-at.order c.loop-at.due c.loop-at.later = λ n g ready. let inv = c.loop-at.invariant.1 n g ready in ready-next g ready inv.0 inv.1 inv.2 (as-long-wide ready.wide c.loop-at.invariant.0) in
     let inv = c.loop-at.invariant.1 _ c.requires.1.0 c.requires.1.1 in
     ((_, (c.requires.1.0, ready_at _ c.requires.1.0 c.requires.1.1)), omega (arith, inv.2.grown.longer, c.loop-at-test.true))
-
-pub overflow_add-at : goal.overflow_add-at
-overflow_add-at c = omega (arith, c.loop-at-test.true, c.requires.1.0.few-positions, listed-most c.requires.1.1.standing.placed)
-
-pub loop-at-smaller : goal.loop-at-smaller
-loop-at-smaller c = omega (arith, c.loop-at-test.true)
 
 pub loop-at-preserved : goal.loop-at-preserved
 loop-at-preserved c =
@@ -36,24 +23,6 @@ loop-at-preserved c =
           let inv = c.loop-at.invariant.1 n g ready in
           (omega (arith, inv.0), omega (arith, turn), progress-then g ready inv.2 (visit.ensures.goes_on n g (ready_at n g ready) (omega (arith, inv.2.grown.longer, turn)))),
     )
-
-pub shape_of-needs : goal.shape_of-needs
-shape_of-needs c = omega (arith, c.loop-at.invariant.0)
-
-pub shape_of-values : goal.shape_of-values
-shape_of-values c = omega (arith, c.loop-at.invariant.0)
-
-pub shape_of-steps : goal.shape_of-steps
-shape_of-steps c = omega (arith, c.loop-at.invariant.0)
-
-pub shape_of-order : goal.shape_of-order
-shape_of-order c = omega (arith, c.loop-at.invariant.0)
-
-pub shape_of-due : goal.shape_of-due
-shape_of-due c = omega (arith, c.loop-at.invariant.0)
-
-pub shape_of-later : goal.shape_of-later
-shape_of-later c = omega (arith, c.loop-at.invariant.0)
 
 pub returns : goal.returns
 returns c =

@@ -1,5 +1,5 @@
 -- `visit_round` meets its contract: the invariant says that the positions of the order before `at` were visited.
-use Prim.Native.Nat.{ℕ, ◌-◌, ◌≤◌}
+use Prim.Native.Nat.{ℕ, ◌≤◌}
 use lib.ListN.{get_or}
 use Rattle.visits.specs.Lists.{among}
 use Rattle.visits.specs.Standing.{Setting, AsLong, Ready, Progress}
@@ -10,6 +10,3 @@ invariant-loop-at l =
     AsLong l.initial.needs l.initial.values l.initial.steps l.initial.order l.initial.due l.initial.later l.needs l.values l.steps l.order l.due l.later
     × ((n : ℕ) (g : Setting n l.starts l.entries) → Ready g l.k l.head l.initial.grown l.initial.needs l.initial.values l.initial.steps l.initial.order l.initial.due l.initial.later
     → (l.head ≤ l.at) × (l.at ≤ l.initial.grown.tail) × Progress g l.k l.s (λ i. among l.order l.at (get_or g.tos i 0)) l.initial.grown l.initial.needs l.initial.values l.initial.steps l.initial.order l.grown l.needs l.values l.steps l.order l.due l.later)
-
-abbrev pub decreases-loop-at : goal.decreases-loop-at
-decreases-loop-at l = l.end - l.at

@@ -7,6 +7,3 @@ use Rattle.walk.proofs.file_numbers.Given as goal
 
 abbrev pub invariant-loop-v : goal.invariant-loop-v
 invariant-loop-v l = (l.v ≤ l.n) × Numbers l.numbers l.n × (length l.numbers ≡ length l.initial.numbers)
-
-abbrev pub decreases-loop-v : goal.decreases-loop-v
-decreases-loop-v l = l.n - l.v

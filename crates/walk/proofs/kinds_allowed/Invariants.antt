@@ -5,6 +5,3 @@ use Rattle.walk.proofs.kinds_allowed.Given as goal
 
 abbrev pub invariant-loop-v : goal.invariant-loop-v
 invariant-loop-v l = (l.v ≤ l.n) × KindsAllowed l.owners l.v l.kinds
-
-abbrev pub decreases-loop-v : goal.decreases-loop-v
-decreases-loop-v l = l.n - l.v

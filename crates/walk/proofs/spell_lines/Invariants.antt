@@ -5,6 +5,3 @@ use Rattle.walk.proofs.spell_lines.Given as goal
 
 abbrev pub invariant-loop-v : goal.invariant-loop-v
 invariant-loop-v l = (l.v ≤ l.n) × LinesSpelt l.v l.initial.openings l.openings l.initial.middles l.middles l.initial.closings l.closings
-
-abbrev pub decreases-loop-v : goal.decreases-loop-v
-decreases-loop-v l = l.n - l.v

@@ -9,6 +9,3 @@ use Rattle.walk.proofs.walk_moves.Given as goal
 
 abbrev pub invariant-loop-i : goal.invariant-loop-i
 invariant-loop-i l = (l.i ≤ l.m) × SoFar l.text l.n l.i l.lowest × Kinds l.text l.n l.i l.kinds × Kept (2 * l.n) l.initial.kinds l.kinds × MoveRows l.text (l.n + 1) l.i l.initial.costs l.costs l.initial.froms l.froms l.initial.tos l.tos
-
-abbrev pub decreases-loop-i : goal.decreases-loop-i
-decreases-loop-i l = l.m - l.i

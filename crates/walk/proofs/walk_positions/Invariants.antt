@@ -5,6 +5,3 @@ use Rattle.walk.proofs.walk_positions.Given as goal
 
 abbrev pub invariant-loop-v : goal.invariant-loop-v
 invariant-loop-v l = (l.v ≤ l.n) × PositionsPassed l.text l.v l.initial.owners l.owners l.initial.marks l.marks
-
-abbrev pub decreases-loop-v : goal.decreases-loop-v
-decreases-loop-v l = l.n - l.v

@@ -1,9 +1,6 @@
--- `reference_test::listed::write_sheet` is safe and ends: it counts `i` up to `lines`.
-use Rattle.std.proofs.Common.{◌-◌, ◌≤◌}
+-- `reference_test::listed::write_sheet` is safe: it has written no more lines than it has seen.
+use Rattle.std.proofs.Common.{◌≤◌}
 use Rattle.reference_test.proofs.listed.write_sheet.Given as goal
 
 abbrev pub invariant-loop-i : goal.invariant-loop-i
-invariant-loop-i l = l.i ≤ l.lines
-
-abbrev pub decreases-loop-i : goal.decreases-loop-i
-decreases-loop-i l = l.lines - l.i
+invariant-loop-i l = l.count ≤ l.i

@@ -1,9 +1,0 @@
--- `damage_test::damage::exchange` is safe and ends: it counts `k` up to 12.
-use Rattle.std.proofs.Common.{◌-◌, ◌≤◌}
-use Rattle.damage_test.proofs.damage.exchange.Given as goal
-
-abbrev pub invariant-loop-k : goal.invariant-loop-k
-invariant-loop-k l = l.k ≤ 12
-
-abbrev pub decreases-loop-k : goal.decreases-loop-k
-decreases-loop-k l = 12 - l.k

@@ -1,9 +1,0 @@
--- `damage_test::draw::draw_positions` is safe and ends: it counts `v` up to `n`.
-use Rattle.std.proofs.Common.{◌-◌, ◌≤◌}
-use Rattle.damage_test.proofs.draw.draw_positions.Given as goal
-
-abbrev pub invariant-loop-v : goal.invariant-loop-v
-invariant-loop-v l = l.v ≤ l.n
-
-abbrev pub decreases-loop-v : goal.decreases-loop-v
-decreases-loop-v l = l.n - l.v

@@ -1,9 +1,0 @@
--- `damage_test::some` is safe and ends: it counts `i` up to `charts`.
-use Rattle.std.proofs.Common.{◌-◌, ◌≤◌}
-use Rattle.damage_test.proofs.some.Given as goal
-
-abbrev pub invariant-loop-i : goal.invariant-loop-i
-invariant-loop-i g l = l.i ≤ l.charts
-
-abbrev pub decreases-loop-i : goal.decreases-loop-i
-decreases-loop-i g l = l.charts - l.i

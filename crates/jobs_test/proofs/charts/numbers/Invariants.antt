@@ -1,9 +1,0 @@
--- `jobs_test::charts::numbers` is safe and ends: it counts up to `count`.
-use Rattle.std.proofs.Common.{◌-◌, ◌≤◌}
-use Rattle.jobs_test.proofs.charts.numbers.Given as goal
-
-abbrev pub invariant-loop-i : goal.invariant-loop-i
-invariant-loop-i g l = l.i ≤ l.count
-
-abbrev pub decreases-loop-i : goal.decreases-loop-i
-decreases-loop-i g l = l.count - l.i

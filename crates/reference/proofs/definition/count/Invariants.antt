@@ -1,9 +1,0 @@
--- `reference::definition::count` is safe and ends: it counts `v` up to `n`.
-use Rattle.std.proofs.Common.{◌-◌, ◌≤◌}
-use Rattle.reference.proofs.definition.count.Given as goal
-
-abbrev pub invariant-loop-v : goal.invariant-loop-v
-invariant-loop-v l = l.v ≤ l.n
-
-abbrev pub decreases-loop-v : goal.decreases-loop-v
-decreases-loop-v l = l.n - l.v

@@ -1,9 +1,0 @@
--- `reference::text::put_field` is safe and ends: it counts `k` up to 5.
-use Rattle.std.proofs.Common.{◌-◌, ◌≤◌}
-use Rattle.reference.proofs.text.put_field.Given as goal
-
-abbrev pub invariant-loop-k : goal.invariant-loop-k
-invariant-loop-k l = l.k ≤ 5
-
-abbrev pub decreases-loop-k : goal.decreases-loop-k
-decreases-loop-k l = 5 - l.k

@@ -1,9 +1,0 @@
--- `reference_test::asked` is safe and ends: it counts `i` up to `charts`.
-use Rattle.std.proofs.Common.{◌-◌, ◌≤◌}
-use Rattle.reference_test.proofs.asked.Given as goal
-
-abbrev pub invariant-loop-i : goal.invariant-loop-i
-invariant-loop-i g l = l.i ≤ l.charts
-
-abbrev pub decreases-loop-i : goal.decreases-loop-i
-decreases-loop-i g l = l.charts - l.i
