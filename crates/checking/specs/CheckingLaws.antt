@@ -9,7 +9,7 @@ use Rattle.game.specs.Arena.{Arena, size}
 use Rattle.game.specs.Play.{target_of}
 use Rattle.chart.specs.Meaning.{arena_of}
 use Rattle.chart.specs.Examined.{examined}
-use Rattle.chart.specs.Accepted.{accepted-chartable, accepted-moves, froms-rise}
+use Rattle.decode.specs.LoadedLaws.{decoded-ascending as loaded-ascending}
 use Rattle.rows.specs.declared.Chart.{Chart}
 use Rattle.refusal.specs.declared.Misdrawn.{Misdrawn}
 use Rattle.refusal.specs.declared.Refusal.TheVariants.{Chart as OfChart, Plate}
@@ -32,9 +32,7 @@ use Rattle.verdict.specs.SameFault.{verdict-same}
 -- the loaded moves lie by their positions
 pub decoded-ascending : (text : List ℕ) (chart : Chart) → examined text ≡ Ok chart → {n : ℕ} {owners marks costs froms tos : List ℕ}
     → RowsOf (arena_of text) n chart.moves owners marks costs froms tos → Ascending chart.moves froms
-decoded-ascending text chart e d i j l k =
-    let rise = froms-rise (arena_of text) (accepted-chartable text chart e) i j l (rw (accepted-moves text chart e) k) in
-    omega (arith, d.from i (omega arith), d.from j k)
+decoded-ascending = loaded-ascending
 
 -- a value below 512 as a number
 number-formed : (x : Value) → Below 512 x → (number_of x ≡ 65535) ⊎ (number_of x < 512)

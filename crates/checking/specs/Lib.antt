@@ -1,4 +1,5 @@
 pub mod Checking
+pub mod OnRows
 pub mod Answers
 pub mod CheckingLaws
 pub mod AnswersExact

@@ -4,16 +4,17 @@
 
 ghost use Rattle.std.specs.Prelude.{◌≡◌, ◌≤◌, length};
 ghost use Rattle.rows.specs.Numbers.{number_at};
-ghost use Rattle.rows.specs.Rows.{Ascending, ChartRows};
+ghost use Rattle.rows.specs.Rows.{Ascending};
 ghost use Rattle.plate.specs.Formed.{form_of};
-ghost use Rattle.comparing.specs.Comparing.{FormedCompared, first_difference, value_number};
+ghost use Rattle.comparing.specs.Comparing.{first_difference, value_number};
+ghost use Rattle.comparing.specs.OnRows.{ComparedOf};
 ghost use Rattle.comparing.specs.Compared.{ComparedIs};
 
 use checking::check_formed;
-use decode::load;
+use decode::Room;
 use plate::{examine_plate, read_rows};
 use refusal::Refusal;
-use rows::Chart;
+use rows::{Chart, Rows};
 use weighing::weigh_rows;
 
 // A position where the plate's value is not the worth.
@@ -29,49 +30,27 @@ pub struct Difference {
 pub fn compare(text: &[u8], plate: &[u8], choices: &[u16]) -> Result<Option<Difference>, Refusal>
     ensures { ComparedIs text.now plate.now choices.now result }
 {
-    let mut owners = [0u8; Chart::POSITIONS];
-    let mut marks = [0u8; Chart::POSITIONS];
-    let mut costs = [0u8; Chart::MOVES];
-    let mut froms = [0u16; Chart::MOVES];
-    let mut tos = [0u16; Chart::MOVES];
-    let chart = load(
-        text,
-        &mut owners,
-        &mut marks,
-        &mut costs,
-        &mut froms,
-        &mut tos,
-    )?;
-    let n = chart.positions;
-    let m = chart.moves;
+    let mut room = Room::new();
+    let rows = room.load(text)?;
+    let n = rows.positions;
     if choices.len() < n {
         return Err(Refusal::Short);
     }
     examine_plate(n, plate).map_err(Refusal::Plate)?;
-    compare_formed(n, m, &owners, &marks, &costs, &froms, &tos, plate, choices)
+    compare_formed(&rows, plate, choices)
 }
 
 // Weighs the choices over a chart's rows and checks a plate of the form, then compares its values with the worths.
-fn compare_formed(
-    n: usize,
-    m: usize,
-    owners: &[u8],
-    marks: &[u8],
-    costs: &[u8],
-    froms: &[u16],
-    tos: &[u16],
-    plate: &[u8],
-    choices: &[u16],
-) -> Result<Option<Difference>, Refusal>
-    requires { ChartRows n m owners.now marks.now costs.now froms.now tos.now × Ascending m froms.now × (form_of n plate.now ≡ Ok tt) × (n ≤ length choices.now) }
-    ensures { FormedCompared n m owners.now marks.now costs.now froms.now tos.now plate.now choices.now result }
+fn compare_formed(rows: &Rows, plate: &[u8], choices: &[u16]) -> Result<Option<Difference>, Refusal>
+    requires { Ascending rows.now.moves rows.now.froms.now × (form_of rows.now.positions plate.now ≡ Ok tt) × (rows.now.positions ≤ length choices.now) }
+    ensures { ComparedOf rows.now plate.now choices.now result }
 {
     let mut worths = [0u16; Chart::POSITIONS];
-    if !weigh_rows(n, m, owners, marks, costs, froms, tos, choices, &mut worths) {
+    if !weigh_rows(rows, choices, &mut worths) {
         return Err(Refusal::Choice);
     }
-    check_formed(n, m, owners, marks, costs, froms, tos, plate)?;
-    Ok(compare_worths(n, plate, &worths))
+    check_formed(rows, plate)?;
+    Ok(compare_worths(rows.positions, plate, &worths))
 }
 
 // The first position where the values of a plate of the form differ from the worths.

@@ -1,3 +1,5 @@
--- Position is what a reader must believe; PositionLaws says that ranks are compared as value and step are.
+-- Position is what a reader must believe; PositionLaws says that ranks are compared as value and step are,
+-- Failing what the condition of a number tells of it.
 pub mod Position
 pub mod PositionLaws
+pub mod Failing

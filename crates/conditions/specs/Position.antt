@@ -1,5 +1,5 @@
 -- Conditions 1 to 5 of Checking at one position, as the code's tests on numbers: 65,535 stands for "ever" and the dash.
-use Rattle.std.specs.Prelude.{ℕ, ◌+◌, ◌*◌, ◌<◌, ◌≡◌, Bool, false, cond, not, ◌&&◌, ◌||◌, eqb, leb, ltb}
+use Rattle.std.specs.Prelude.{ℕ, zero, suc, Option, Some, None, ◌+◌, ◌*◌, ◌<◌, ◌≡◌, Bool, false, cond, not, ◌&&◌, ◌||◌, eqb, leb, ltb}
 use Rattle.std.specs.Bool.{beq}
 use Rattle.conditions.specs.declared.Line.{Line}
 use Rattle.conditions.specs.declared.Target.{Target}
@@ -14,6 +14,11 @@ is_ever l = eqb l.value 65535
 
 abbrev pub is_controller : Line → Bool
 is_controller l = eqb l.owner 0
+
+-- the condition of a number, none for 0
+abbrev pub failing : ℕ → Option ℕ
+failing zero = None
+failing (suc c) = Some (suc c)
 
 -- the first of conditions 1, 2 and, at L and R, 3 that fails, 0 if none does
 unfoldable pub before_moves : Line → ℕ

@@ -2,7 +2,7 @@
 #![tactic(auto)]
 
 ghost use Rattle.std.specs.Prelude.{◌≡◌};
-ghost use Rattle.conditions.specs.Position.{Rank, after_moves, before_moves, earlier_target, joined, nothing, shown};
+ghost use Rattle.conditions.specs.Position.{Rank, after_moves, before_moves, earlier_target, failing, joined, nothing, shown};
 
 use rows::NONE;
 
@@ -49,35 +49,35 @@ impl Seen {
     }
 }
 
-// The first of conditions 1, 2 and, at L and R, 3 that fails; 0 if none does.
-pub fn before_moves(line: Line) -> u8
-    ensures { result ≡ before_moves line }
+// The first of conditions 1, 2 and, at L and R, 3 that fails, if one does.
+pub fn before_moves(line: Line) -> Option<u8>
+    ensures { result ≡ failing (before_moves line) }
 {
     if (line.mark == 1) & (line.value != 0) {
-        return 1;
+        return Some(1);
     }
     if (line.value == NONE) != (line.step == NONE) {
-        return 2;
+        return Some(2);
     }
     if (line.owner != 0) & (line.choice != NONE) {
-        return 3;
+        return Some(3);
     }
-    0
+    None
 }
 
-// The first of conditions 3 at O, 4 and 5 that fails by what all its moves show; 0 if none does.
-pub fn after_moves(line: Line, seen: Seen) -> u8
-    ensures { result ≡ after_moves line seen }
+// The first of conditions 3 at O, 4 and 5 that fails by what all its moves show, if one does.
+pub fn after_moves(line: Line, seen: Seen) -> Option<u8>
+    ensures { result ≡ failing (after_moves line seen) }
 {
     if (line.owner == 0) & !seen.chosen {
-        return 3;
+        return Some(3);
     }
     if seen.low {
-        return 4;
+        return Some(4);
     }
     let exempt = (line.mark == 1) | (line.value == NONE);
     let ruined = seen.ruin | ((line.owner == 0) & !seen.late);
-    if exempt | ruined { 0 } else { 5 }
+    if exempt | ruined { None } else { Some(5) }
 }
 
 // Smaller value, or equal value and smaller step; 65,535 is above each. One comparison, without jumps.

@@ -1,7 +1,8 @@
 -- The rows of an accepted text, decoded line by line, are its arena's.
 use Rattle.std.specs.Prelude.{ℕ, ◌+◌, ◌*◌, ◌≤◌, ◌<◌, ◌≡◌, refl, List, length, Result, Ok, Err}
 use Rattle.std.proofs.Common.{arith, sym, ap, subst, ◌∙◌}
-use Rattle.rows.specs.Rows.{RowIs, Filled, Kept, owner_number}
+use Rattle.rows.specs.Rows.{RowIs, Filled, Kept, owner_number, Ascending, RowsOf}
+use Rattle.rows.specs.declared.Rows.{Rows}
 use Rattle.game.specs.Arena.{Position, Move}
 use Rattle.field.specs.Text.{field_at, decimal_at}
 use Rattle.field.specs.Laws.{field-spells, blank-spells}
@@ -12,12 +13,12 @@ use Rattle.chart.specs.Meaning.{cost_of, position_on, move_on, arena_of}
 use Rattle.chart.specs.Examined.{header_of, examined}
 use Rattle.chart.specs.Header.{header-accepts}
 use Rattle.chart.specs.Arenas.{arena-position, arena-move}
-use Rattle.chart.specs.Accepted.{accepted-chartable, accepted-size, accepted-moves}
+use Rattle.chart.specs.Accepted.{accepted-chartable, accepted-size, accepted-moves, froms-rise}
 use Rattle.chart.specs.Good.{GoodChart, accepted-good}
 use Rattle.rows.specs.declared.Chart.{Chart}
 use Rattle.refusal.specs.declared.Misdrawn.{Misdrawn}
 use Rattle.walk.specs.Decoded.{PositionRows, MoveRows}
-use Rattle.decode.specs.Loaded.{Loaded, Cleared, LoadIs}
+use Rattle.decode.specs.Loaded.{Loaded, Cleared, LoadIs, RowsTaken, RowsLoaded}
 
 -- what decoding needs of an accepted text: the lines are there, the numbers fit the rows, and the bytes spell them
 pub record PositionsFit (text : List ℕ) (n : ℕ) : Type 0 where
@@ -169,3 +170,24 @@ load_after text chart r owners₀ owners₁ owners marks₀ marks₁ marks costs
 -- a row that was filled over its whole length
 pub filled-all : {old new : List ℕ} {f : ℕ → ℕ} → Filled old new (length old) f → RowIs new (length new) f
 filled-all {old} {new} {f} w k h = w.row k (subst (λ (n : ℕ). k < n) w.same_length h)
+
+-- the loaded moves lie by their positions
+pub decoded-ascending : (text : List ℕ) (chart : Chart) → examined text ≡ Ok chart → {n : ℕ} {owners marks costs froms tos : List ℕ}
+    → RowsOf (arena_of text) n chart.moves owners marks costs froms tos → Ascending chart.moves froms
+decoded-ascending text chart e d i j l k =
+    let rise = froms-rise (arena_of text) (accepted-chartable text chart e) i j l (rw (accepted-moves text chart e) k) in
+    omega (arith, d.from i (omega arith), d.from j k)
+
+pub rows-taken : {text : List ℕ} {rows : Rows} → RowsTaken text rows → RowsLoaded text (Ok rows)
+rows-taken {text} {rows} t =
+    record {
+      taken = λ other e. let same : rows ≡ other = cc in subst (RowsTaken text) same t;
+      refused = λ s e. let z : ◌≡◌ {A = ℕ} 0 1 = cc in absurd (omega arith);
+    }
+
+pub rows-refused : {text : List ℕ} {s : Misdrawn} → examined text ≡ Err s → RowsLoaded text (Err s)
+rows-refused {text} {s} e =
+    record {
+      taken = λ rows q. let z : ◌≡◌ {A = ℕ} 0 1 = cc in absurd (omega arith);
+      refused = λ t q. let same : s ≡ t = cc in e ∙ ap Err same;
+    }

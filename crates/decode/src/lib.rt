@@ -4,13 +4,58 @@
 ghost use Rattle.std.specs.Prelude.{◌≡◌, ◌+◌, ◌≤◌, length};
 ghost use Rattle.chart.specs.Examined.{examined};
 ghost use Rattle.walk.specs.Decoded.{PositionRows, MoveRows};
-ghost use Rattle.decode.specs.Loaded.{Cleared, LoadIs};
+ghost use Rattle.decode.specs.Loaded.{Cleared, LoadIs, RowsLoaded};
 
 use chart::{cost, examine, header};
 use field::decimal;
 use refusal::Misdrawn;
-use rows::{Chart, clear, clear_flags};
+use rows::{Chart, Rows, clear, clear_flags};
 use walk::{owner, walk};
+
+// Room for the rows of any chart.
+#[derive(Drop)]
+pub struct Room {
+    owners: [u8; Chart::POSITIONS],
+    marks: [u8; Chart::POSITIONS],
+    costs: [u8; Chart::MOVES],
+    froms: [u16; Chart::MOVES],
+    tos: [u16; Chart::MOVES],
+}
+
+impl Room {
+    pub fn new() -> Room {
+        Room {
+            owners: [0; Chart::POSITIONS],
+            marks: [0; Chart::POSITIONS],
+            costs: [0; Chart::MOVES],
+            froms: [0; Chart::MOVES],
+            tos: [0; Chart::MOVES],
+        }
+    }
+
+    // Loads a chart into the room: its rows, with the moves by the positions that they leave, or its refusal.
+    pub fn load(&mut self, text: &[u8]) -> Result<Rows<'_>, Misdrawn>
+        ensures { RowsLoaded text.now result }
+    {
+        let chart = load(
+            text,
+            &mut self.owners,
+            &mut self.marks,
+            &mut self.costs,
+            &mut self.froms,
+            &mut self.tos,
+        )?;
+        Ok(Rows {
+            positions: chart.positions,
+            moves: chart.moves,
+            owners: &self.owners,
+            marks: &self.marks,
+            costs: &self.costs,
+            froms: &self.froms,
+            tos: &self.tos,
+        })
+    }
+}
 
 // Examines a chart and, where it is accepted, decodes it into rows: owner (0 the controller, 1 the environment, 2 nobody) and mark of
 // each position, cost (0 meant, 1 a disturbance), from and to of each move. What lies past them stays; on a refusal the rows are

@@ -21,6 +21,7 @@ pub fn count_moves(n: usize, m: usize, marks: &[u8], froms: &[u16], tos: &[u16],
     let mut order = [0u16; Chart::POSITIONS];
     let mut tail = begin(n, marks, left, &mut order);
     let mut head: usize = 0;
+    // No `for`: the order grows on the way.
     while head < tail {
         tail = visit(n, m, head, froms, &heads, &nexts, tail, left, &mut order);
         head += 1;
@@ -71,6 +72,7 @@ fn visit(
     let count = left[to] + 1;
     let mut last = tail;
     let mut i = heads[to] as usize;
+    // No `for`: along a chain each place names the next.
     while i < m {
         last = reach(froms[i] as usize, count, last, left, order);
         i = nexts[i] as usize;

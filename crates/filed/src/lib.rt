@@ -3,105 +3,70 @@
 #![tactic(auto)]
 
 ghost use Rattle.std.specs.Prelude.{ℕ, ◌+◌, ◌*◌, ◌<◌, ◌≤◌, length, get_or, eqb};
-ghost use Rattle.rows.specs.Rows.{ChartRows, RowIs};
+ghost use Rattle.rows.specs.Rows.{RowIs};
 ghost use Rattle.rows.specs.Numbers.{number_at};
-ghost use Rattle.solver.specs.Solving.{Solved};
+ghost use Rattle.solver.specs.OnRows.{SolvedOf};
 ghost use Rattle.visits.specs.Lists.{Listed};
 ghost use Rattle.visits.specs.Standing.{Ready, Setting};
 ghost use Rattle.filed.specs.Values.{AllRounds, FirstValue, Gathered, NextValue, ValueBegun, ValueSettled};
 
 use filing::file;
 use needs::{code_moves, count_needs};
-use rows::{Chart, clear};
+use rows::{Chart, Rows, clear};
 use visits::{Lists, put, visit_round};
 
 // So many moves fit into the shorter rows. To clear longer ones is a good part of what a small chart takes.
 pub const FEW: usize = 512;
 
-// Values and steps by rounds, as `solver::solve` gives them: 65,535 for "ever" and its dash. The rows hold a chart, as those that `load` fills
-// do, and there is room for n numbers. What lies past the n-th number stays.
-pub fn solve_filed(
-    n: usize,
-    m: usize,
-    owners: &[u8],
-    marks: &[u8],
-    costs: &[u8],
-    froms: &[u16],
-    tos: &[u16],
-    values: &mut [u16],
-    steps: &mut [u16],
-)
-    requires { ChartRows n m owners.now marks.now costs.now froms.now tos.now × (n ≤ length values.old) × (n ≤ length steps.old) }
-    ensures { Solved n m owners.now marks.now costs.now froms.now tos.now values.old steps.old values.new steps.new }
+// Values and steps by rounds, as `solver::solve` gives them: 65,535 for "ever" and its dash. There is room for a number of each position.
+// What lies past stays.
+pub fn solve_filed(rows: &Rows, values: &mut [u16], steps: &mut [u16])
+    requires { (rows.now.positions ≤ length values.old) × (rows.now.positions ≤ length steps.old) }
+    ensures { SolvedOf rows.now values.old steps.old values.new steps.new }
 {
-    if m <= FEW {
-        solve_up_to::<FEW>(n, m, owners, marks, costs, froms, tos, values, steps);
+    if rows.moves <= FEW {
+        solve_up_to::<FEW>(rows, values, steps);
     } else {
-        solve_up_to::<{ Chart::MOVES }>(n, m, owners, marks, costs, froms, tos, values, steps);
+        solve_up_to::<{ Chart::MOVES }>(rows, values, steps);
     }
 }
 
 // The same, with rows for codes and file that have room for N moves.
-fn solve_up_to<const N: usize>(
-    n: usize,
-    m: usize,
-    owners: &[u8],
-    marks: &[u8],
-    costs: &[u8],
-    froms: &[u16],
-    tos: &[u16],
-    values: &mut [u16],
-    steps: &mut [u16],
-)
-    requires chart_rows { ChartRows n m owners.now marks.now costs.now froms.now tos.now × (n ≤ length values.old) × (n ≤ length steps.old) }
-    requires m_bound { (m ≤ N) × (N ≤ 4096) }
-    ensures { Solved n m owners.now marks.now costs.now froms.now tos.now values.old steps.old values.new steps.new }
+fn solve_up_to<const N: usize>(rows: &Rows, values: &mut [u16], steps: &mut [u16])
+    requires positions_fit { (rows.now.positions ≤ length values.old) × (rows.now.positions ≤ length steps.old) }
+    requires moves_fit { (rows.now.moves ≤ N) × (N ≤ 4096) }
+    ensures { SolvedOf rows.now values.old steps.old values.new steps.new }
 {
     let mut codes = [0u16; N];
     let mut entries = [0u16; N];
-    solve_in(
-        n,
-        m,
-        owners,
-        marks,
-        costs,
-        froms,
-        tos,
-        &mut codes,
-        &mut entries,
-        values,
-        steps,
-    );
+    solve_in(rows, &mut codes, &mut entries, values, steps);
 }
 
 // Codes and files the moves, in the rows that are lent for that, counts the needs, and goes through the rounds.
 fn solve_in(
-    n: usize,
-    m: usize,
-    owners: &[u8],
-    marks: &[u8],
-    costs: &[u8],
-    froms: &[u16],
-    tos: &[u16],
+    rows: &Rows,
     codes: &mut [u16],
     entries: &mut [u16],
     values: &mut [u16],
     steps: &mut [u16],
 )
-    requires chart_rows { ChartRows n m owners.now marks.now costs.now froms.now tos.now × (n ≤ length values.old) × (n ≤ length steps.old) }
-    requires m_in_bounds { (m ≤ length codes.old) × (m ≤ length entries.old) }
-    ensures { Solved n m owners.now marks.now costs.now froms.now tos.now values.old steps.old values.new steps.new }
+    requires positions_fit { (rows.now.positions ≤ length values.old) × (rows.now.positions ≤ length steps.old) }
+    requires moves_fit { (rows.now.moves ≤ length codes.old) × (rows.now.moves ≤ length entries.old) }
+    ensures { SolvedOf rows.now values.old steps.old values.new steps.new }
 {
+    let n = rows.positions;
+    let m = rows.moves;
     let mut starts = [0u16; Chart::POSITIONS + 1];
     let mut needs = [0u16; 2 * Chart::POSITIONS];
     let mut order = [0u16; Chart::POSITIONS];
     let mut due = [0u16; Chart::POSITIONS];
     let mut later = [0u16; Chart::POSITIONS];
-    code_moves(m, costs, froms, codes);
-    file(n, m, tos, codes, &mut starts, entries);
-    count_needs(n, m, owners, codes, &mut needs);
+    code_moves(m, rows.costs, rows.froms, codes);
+    file(n, m, rows.tos, codes, &mut starts, entries);
+    count_needs(n, m, rows.owners, codes, &mut needs);
     solve_rounds(
-        n, marks, &starts, entries, &mut needs, values, steps, &mut order, &mut due, &mut later,
+        n, rows.marks, &starts, entries, &mut needs, values, steps, &mut order, &mut due,
+        &mut later,
     );
 }
 

@@ -2,18 +2,19 @@
 // a single report moves it, or none does. The plate is tested once for the whole house.
 #![tactic(auto)]
 
-ghost use Rattle.std.specs.Prelude.{◌≡◌, List, ℕ, ◌≤◌, length};
-ghost use Rattle.rows.specs.Rows.{Ascending, ChartRows};
+ghost use Rattle.std.specs.Prelude.{◌≡◌, ◌≤◌, length};
+ghost use Rattle.rows.specs.Rows.{Ascending};
 ghost use Rattle.plate.specs.Formed.{form_of};
 ghost use Rattle.house.specs.Housing.{DriveIs, HouseIs, driven_lanes};
-ghost use Rattle.house.specs.Driving.{LanesDriven, RowsDriven, refused_house};
+ghost use Rattle.house.specs.Driving.{refused_house};
+ghost use Rattle.house.specs.OnRows.{CheckedReportOf, LanesDrivenOf, RowsDrivenOf};
 ghost use Rattle.house.specs.Copies.{copied, no_runs};
 
 use checking::check_plate;
-use decode::load;
+use decode::Room;
 use refusal::Refusal;
-use rows::{Chart, NONE};
-use run::Run;
+use rows::{NONE, Rows};
+use run::{Reported, Run};
 
 // A house that is handed back: its records, how many of them are to be put back, 0 where it is refused, and the answer.
 #[derive(Clone, Copy)]
@@ -78,27 +79,10 @@ pub fn drive(
     if lanes_of(lanes, reports.len()) == 0 {
         return refused(runs, 0, Refusal::Lanes);
     }
-    let mut owners = [0u8; Chart::POSITIONS];
-    let mut marks = [0u8; Chart::POSITIONS];
-    let mut costs = [0u8; Chart::MOVES];
-    let mut froms = [0u16; Chart::MOVES];
-    let mut tos = [0u16; Chart::MOVES];
-    match load(
-        text,
-        &mut owners,
-        &mut marks,
-        &mut costs,
-        &mut froms,
-        &mut tos,
-    ) {
+    let mut room = Room::new();
+    match room.load(text) {
         Err(r) => refused(runs, 0, Refusal::Chart(r)),
-        Ok(chart) => {
-            let n = chart.positions;
-            let m = chart.moves;
-            drive_rows(
-                runs, lanes, reports, n, m, &owners, &marks, &costs, &froms, &tos, plate,
-            )
-        }
+        Ok(rows) => drive_rows(runs, lanes, reports, &rows, plate),
     }
 }
 
@@ -131,21 +115,15 @@ fn drive_rows(
     runs: [Run; Run::LANES],
     lanes: usize,
     reports: &[u16],
-    n: usize,
-    m: usize,
-    owners: &[u8],
-    marks: &[u8],
-    costs: &[u8],
-    froms: &[u16],
-    tos: &[u16],
+    rows: &Rows,
     plate: &[u8],
 ) -> House
-    requires { ChartRows n m owners.now marks.now costs.now froms.now tos.now × Ascending m froms.now × (lanes ≤ 64) × (lanes ≡ length reports.now) }
-    ensures { RowsDriven n m owners.now marks.now costs.now froms.now tos.now runs lanes reports.now plate.now result }
+    requires { Ascending rows.now.moves rows.now.froms.now × (lanes ≤ 64) × (lanes ≡ length reports.now) }
+    ensures { RowsDrivenOf rows.now runs lanes reports.now plate.now result }
 {
-    match check_plate(n, m, owners, marks, costs, froms, tos, plate) {
+    match check_plate(rows, plate) {
         Err(r) => refused(runs, 0, r),
-        Ok(()) => drive_lanes(runs, lanes, reports, n, m, owners, costs, froms, tos, plate),
+        Ok(()) => drive_lanes(runs, lanes, reports, rows, plate),
     }
 }
 
@@ -154,16 +132,11 @@ fn drive_lanes(
     runs: [Run; Run::LANES],
     lanes: usize,
     reports: &[u16],
-    n: usize,
-    m: usize,
-    owners: &[u8],
-    costs: &[u8],
-    froms: &[u16],
-    tos: &[u16],
+    rows: &Rows,
     plate: &[u8],
 ) -> House
-    requires { ((marks : List ℕ) × ChartRows n m owners.now marks costs.now froms.now tos.now) × Ascending m froms.now × (form_of n plate.now ≡ Ok tt) × (lanes ≤ 64) × (lanes ≡ length reports.now) }
-    ensures { LanesDriven n m owners.now costs.now froms.now tos.now runs lanes reports.now plate.now result }
+    requires { Ascending rows.now.moves rows.now.froms.now × (form_of rows.now.positions plate.now ≡ Ok tt) × (lanes ≤ 64) × (lanes ≡ length reports.now) }
+    ensures { LanesDrivenOf rows.now runs lanes reports.now plate.now result }
 {
     let mut after = runs;
     let mut moved: usize = 0;
@@ -171,7 +144,7 @@ fn drive_lanes(
         let to = reports[lane];
         if to != NONE {
             let run = runs[lane];
-            let reported = run.report_checked(n, m, owners, costs, froms, tos, plate, to as usize);
+            let reported = report_lane(run, rows, plate, to as usize);
             let answer = reported.answer;
             match answer {
                 Err(r) => return refused(runs, lane, r),
@@ -188,4 +161,21 @@ fn drive_lanes(
         written: lanes,
         answer: Ok(moved),
     }
+}
+
+// A lane's single report.
+fn report_lane(run: Run, rows: &Rows, plate: &[u8], to: usize) -> Reported
+    requires { Ascending rows.now.moves rows.now.froms.now × (form_of rows.now.positions plate.now ≡ Ok tt) }
+    ensures { CheckedReportOf rows.now run plate.now to result }
+{
+    run.report_checked(
+        rows.positions,
+        rows.moves,
+        rows.owners,
+        rows.costs,
+        rows.froms,
+        rows.tos,
+        plate,
+        to,
+    )
 }

@@ -16,6 +16,7 @@ pub fn read_full<R: Read>(from: &mut R, buffer: &mut [u8]) -> io::Result<usize>
     ensures all { IfOk result (λ n. n < length buffer.new → IsAtEnd (R.remaining from.new)) }
 {
     let mut done = 0;
+    // No `for`: it goes on by as many bytes as a read has put.
     while done < buffer.len() {
         let n = from.read(&mut buffer[done..])?;
         if n == 0 {

@@ -3,3 +3,4 @@ pub mod Sheet
 pub mod Listing
 pub mod SheetLaws
 pub mod ListingLaws
+pub mod OnRows

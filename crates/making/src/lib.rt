@@ -28,7 +28,7 @@ pub fn make_number(x: u32, part: &mut [u8], at: usize)
     }
 }
 
-// The field of `-`, likewise.
+// The field of `-`, likewise; it and `ever` are a line each, and each promises its own text.
 pub fn make_dash(part: &mut [u8], at: usize)
     requires { at + 5 ≤ length part.old }
     ensures { FieldMade part.old part.new at Dash }

@@ -1,10 +1,10 @@
 -- A round places position by position: the laws of `Placing` for the start and for a turn.
-use Rattle.std.specs.Prelude.{ℕ, ◌+◌, ◌≤◌, ◌<◌, ◌≡◌, Bool, true, false, cond, List, length, get_or, set}
+use Rattle.std.specs.Prelude.{ℕ, ◌+◌, ◌≤◌, ◌<◌, ◌≡◌, Bool, true, false, cond, List, length, get_or, set, eqb}
 use Rattle.std.proofs.Common.{le_refl}
 use Rattle.std.proofs.Math.Path.{refl}
 use Rattle.std.proofs.lemmas.List.{set-get_or}
 use Rattle.rows.specs.Filling.{filled_next, set_if, filled_none}
-use Rattle.search.specs.Below.{count_below, bit_le, count_next}
+use Rattle.search.specs.Below.{bit, count_below, bit_le, count_next}
 use Rattle.round.specs.Round.{taken, Placing, PlacingAt}
 
 -- a round at one position counts one at most
@@ -31,6 +31,11 @@ module _ (flags : List ℕ) (k s : ℕ) (values steps : List ℕ) where
     }
 
 -- a position that is not taken is stored as it was
-pub set-picked : (b : Bool) (v x : ℕ) (row : List ℕ) → set row v (cond b x (get_or row v 0)) ≡ set_if b v x row
-set-picked true v x row = refl
-set-picked false v x row = set-get_or row v 0
+pub set-taken : (b : Bool) (v x : ℕ) (row : List ℕ) → set row v (cond b x (get_or row v 0)) ≡ set_if b v x row
+set-taken true v x row = refl
+set-taken false v x row = set-get_or row v 0
+
+-- the same where a number says whether
+pub set-picked : (b : Bool) (v x : ℕ) (row : List ℕ) {take : ℕ} → take ≡ bit b → set row v (cond (eqb take 1) x (get_or row v 0)) ≡ set_if b v x row
+set-picked true v x row e = rw e refl
+set-picked false v x row e = rw e (set-get_or row v 0)

@@ -8,3 +8,5 @@ pub mod Copies
 pub mod Notes
 pub mod RowsLaws
 pub mod FirstLineLaws
+pub mod Held
+pub mod Holding

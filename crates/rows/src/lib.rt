@@ -3,7 +3,7 @@
 #![tactic(auto)]
 
 ghost use Rattle.std.specs.Prelude.{◌≤◌, length};
-ghost use Rattle.rows.specs.Rows.{Filled};
+ghost use Rattle.rows.specs.Rows.{ChartRows, Filled, Within};
 
 // In rows of 16-bit numbers "ever" and the dash; also the value and the step of a position that is not placed yet.
 pub const NONE: u16 = 65535;
@@ -24,6 +24,23 @@ impl Chart {
     pub const LINE: usize = 12;
 
     pub const BYTES: usize = 55308;
+}
+
+// A chart as rows of numbers: owner (0 the controller, 1 the environment, 2 nobody) and mark of each position, cost (0 meant, 1 a
+// disturbance), from and to of each move. They hold a chart; what else is said of them follows from that.
+#[derive(Clone, Copy)]
+pub struct Rows<'a> {
+    pub positions: usize,
+    pub moves: usize,
+    pub owners: &'a [u8],
+    pub marks: &'a [u8],
+    pub costs: &'a [u8],
+    pub froms: &'a [u16],
+    pub tos: &'a [u16],
+    pub ghost chart: { ∥ ChartRows positions moves owners.now marks.now costs.now froms.now tos.now ∥₁ },
+    pub ghost few: { (positions ≤ 512) × (moves ≤ 4096) },
+    pub ghost within: { Within positions moves costs.now froms.now tos.now },
+    pub ghost room: { (positions ≤ length owners.now) × (positions ≤ length marks.now) },
 }
 
 // The first line's numbers: how many different pairs of value and step there are, the highest finite value (NONE if none), and how

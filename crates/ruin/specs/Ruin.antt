@@ -1,7 +1,7 @@
 -- The way to ruin (document 02, order 6): "Given chart, choices and a position, write the play ..; the answer is the count of lines. ..
 -- Refusals 10 for the row, 12 and 13 come first; 10 for the output is last. Turned away: 19, exactly when the worth there is "ever",
 -- tested after 13." The count is computed here, by the rounds; that the play is way/Way's is said beside it.
-use Rattle.std.specs.Prelude.{ℕ, suc, ◌*◌, ◌≡◌, cond, List, ◌++◌, length, drop, leb, ltb, Result, Ok, Err}
+use Rattle.std.specs.Prelude.{ℕ, suc, ◌*◌, ◌≡◌, cond, List, ◌++◌, length, drop, leb, ltb, Result, Ok, Err, Option, Some, None}
 use Rattle.rows.specs.Rows.{RowsOf}
 use Rattle.rows.specs.Numbers.{number_of, row_value}
 use Rattle.game.specs.Value.{Value, fin, ever}
@@ -77,10 +77,10 @@ pub record WayLines (a : Arena) (choice : ℕ → Value) (v : ℕ) (positions le
 pub record WayFollowed (n m : ℕ) (marks costs froms tos worths : List ℕ) (v : ℕ) (positions led : List ℕ) (count : ℕ) : Type 0 where
   pub way : (a : Arena) (choice : ℕ → Value) (owners : List ℕ) → WeighedRows a choice n m owners marks costs froms tos worths → WayLines a choice v positions led count
 
--- finding it: no line if the worth is "ever"
-pub record WayFound (n m : ℕ) (owners marks costs froms tos choices : List ℕ) (v : ℕ) (positions led : List ℕ) (count : ℕ) : Type 0 where
-  pub none : (a : Arena) → RowsOf a n m owners marks costs froms tos → Legal a (row_value choices) → count ≡ 0 → round_value (restricted a (row_value choices)) v ≡ ever
-  pub some : (a : Arena) → RowsOf a n m owners marks costs froms tos → Legal a (row_value choices) → (count ≡ 0 → ⊥)
+-- finding it: none if the worth is "ever"
+pub record WayFound (n m : ℕ) (owners marks costs froms tos choices : List ℕ) (v : ℕ) (positions led : List ℕ) (found : Option ℕ) : Type 0 where
+  pub none : (a : Arena) → RowsOf a n m owners marks costs froms tos → Legal a (row_value choices) → found ≡ None → round_value (restricted a (row_value choices)) v ≡ ever
+  pub some : (a : Arena) → RowsOf a n m owners marks costs froms tos → Legal a (row_value choices) → (count : ℕ) → found ≡ Some count
       → WayLines a (row_value choices) v positions led count
 
 -- listing it, where the choices are legal and the position is on the chart, and over rows whatever they are

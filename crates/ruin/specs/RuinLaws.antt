@@ -3,7 +3,7 @@ use Prim.Native.Nat.{ℕ, suc, ◌+◌, ◌*◌, ◌≤◌, ◌<◌}
 use native.Mathlib.Omega.{arith}
 use Rattle.std.proofs.Common.{add-one, ◌∙◌}
 use Rattle.std.proofs.Math.Path.{◌≡◌, refl, sym, ap, subst}
-use Rattle.std.specs.Prelude.{Bool, true, false, not, length, leb, Result, Ok, Err}
+use Rattle.std.specs.Prelude.{Bool, true, false, not, length, leb, Result, Ok, Err, Option, Some, None}
 use mathlib.Core.List.{List, ◌++◌}
 use Rattle.std.proofs.Math.ListN.{get_or, drop}
 use borrow.Author.Tests.{lt-ltb, le-ltb}
@@ -118,20 +118,22 @@ module _ {n m count : ℕ} {owners marks costs froms tos choices worths₀ costs
       let few : size a ≤ 512 = let p = d.positions in let h = d.few-positions in omega arith in
       sym (value-of-number x (worths-fit a d.well (row_value choices) legal few v)) ∙ ap value_of (sym ((solved.rows a d legal).worth v l) ∙ e)
 
-  pub found_none : {v : ℕ} {positions led : List ℕ} → v < n → get_or worths v 0 ≡ 65535 → WayFound n m owners marks costs froms tos choices v positions led 0
-  found_none {v} l e = record { none = λ a d legal z. ever-there a d legal v l e; some = λ a d legal z. absurd (z refl) }
+  pub found_none : {v : ℕ} {positions led : List ℕ} → v < n → get_or worths v 0 ≡ 65535 → WayFound n m owners marks costs froms tos choices v positions led None
+  found_none {v} l e = record { none = λ a d legal z. ever-there a d legal v l e; some = λ a d legal k z. let w : ◌≡◌ {A = ℕ} 0 1 = cc in absurd (omega arith) }
 
   pub found_some : {v lines : ℕ} {positions led : List ℕ} → WayFollowed n count marks costs' froms' tos' worths v positions led lines
-      → WayFound n m owners marks costs froms tos choices v positions led lines
-  found_some {lines = lines} followed = record {
-    none = λ a d legal z. let way = followed.way a (row_value choices) owners (solved.rows a d legal) in absurd (omega (arith, way.counted));
-    some = λ a d legal z. followed.way a (row_value choices) owners (solved.rows a d legal);
+      → WayFound n m owners marks costs froms tos choices v positions led (Some lines)
+  found_some {v} {lines} {positions} {led} followed = record {
+    none = λ a d legal z. let w : ◌≡◌ {A = ℕ} 0 1 = cc in absurd (omega arith);
+    some = λ a d legal k z.
+        let same : lines ≡ k = cc in
+        subst (λ (x : ℕ). WayLines a (row_value choices) v positions led x) same (followed.way a (row_value choices) owners (solved.rows a d legal));
   }
 
 -- Listing it
 
 module _ {n m v : ℕ} {owners marks costs froms tos choices positions led : List ℕ} where
-  pub way-ever : {out : List ℕ} → WayFound n m owners marks costs froms tos choices v positions led 0 → WayListed n m owners marks costs froms tos choices v out out (Err Ever)
+  pub way-ever : {out : List ℕ} → WayFound n m owners marks costs froms tos choices v positions led None → WayListed n m owners marks costs froms tos choices v out out (Err Ever)
   unfolding way_by
   way-ever found = record {
     answer = λ a d legal. rw (found.none a d legal refl);
@@ -139,23 +141,23 @@ module _ {n m v : ℕ} {owners marks costs froms tos choices positions led : Lis
     refused = λ x z. refl;
   }
 
-  module _ {lines : ℕ} (found : WayFound n m owners marks costs froms tos choices v positions led lines) (some : lines ≡ 0 → ⊥) where
+  module _ {lines : ℕ} {r : Option ℕ} (found : WayFound n m owners marks costs froms tos choices v positions led r) (some : r ≡ Some lines) where
     -- there are at most as many lines as positions
     pub few-lines : (a : Arena) → RowsOf a n m owners marks costs froms tos → Legal a (row_value choices) → v < n → lines ≤ n
     few-lines a d legal l =
-        let way = found.some a d legal some in
+        let way = found.some a d legal lines some in
         let p = d.positions in
         let j = moves-are-left a d.well (row_value choices) legal v way.worth (omega arith) way.is-worth in
         let same = fin-injective way.left j.0 (sym way.is-left ∙ j.1) in
         omega (arith, way.counted, j.2)
 
     counted-as : (a : Arena) (d : RowsOf a n m owners marks costs froms tos) (legal : Legal a (row_value choices)) → way_count (restricted a (row_value choices)) v ≡ lines
-    counted-as a d legal = let way = found.some a d legal some in way-counted (restricted a (row_value choices)) v way.left way.is-left ∙ sym way.counted
+    counted-as a d legal = let way = found.some a d legal lines some in way-counted (restricted a (row_value choices)) v way.left way.is-left ∙ sym way.counted
 
     pub way-short : {out : List ℕ} → leb (lines * 12) (length out) ≡ false → WayListed n m owners marks costs froms tos choices v out out (Err Short)
     unfolding way_by
     way-short short = record {
-      answer = λ a d legal. rw ((found.some a d legal some).is-worth, counted-as a d legal, short);
+      answer = λ a d legal. rw ((found.some a d legal lines some).is-worth, counted-as a d legal, short);
       taken = λ a d legal k z. let w : ◌≡◌ {A = ℕ} 0 1 = cc in absurd (omega arith);
       refused = λ x z. refl;
     }
@@ -164,14 +166,14 @@ module _ {n m v : ℕ} {owners marks costs froms tos choices positions led : Lis
         → WayListed n m owners marks costs froms tos choices v out out' (Ok lines)
     unfolding way_by
     way-listed {out} {out'} l room bytes = record {
-      answer = λ a d legal. rw ((found.some a d legal some).is-worth, counted-as a d legal, room);
+      answer = λ a d legal. rw ((found.some a d legal lines some).is-worth, counted-as a d legal, room);
       taken = λ a d legal k z. let e : lines ≡ k = cc in subst (λ (x : ℕ). WayWritten a choices v x out out') e (written a d legal);
       refused = λ x z. let w : ◌≡◌ {A = ℕ} 0 1 = cc in absurd (omega arith);
     }
       where
         written : (a : Arena) → RowsOf a n m owners marks costs froms tos → Legal a (row_value choices) → WayWritten a choices v lines out out'
         written a d legal =
-            let way = found.some a d legal some in
+            let way = found.some a d legal lines some in
             let inside : v < size a = rw d.positions l in
             record {
               legal = legal;

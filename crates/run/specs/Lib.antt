@@ -1,4 +1,5 @@
 pub mod Running
+pub mod OnRows
 pub mod Answers
 pub mod AnyTexts
 pub mod Following

@@ -38,7 +38,7 @@ abbrev pub no_run : Run
 no_run = run_of 18446744073709551615 0 0 0
 
 abbrev pub begun_at : List ℕ → ℕ → Result (Run × Advice) Refusal
-begun_at plate position = Ok ((run_at plate position), (advice_at plate position))
+begun_at plate position = Ok (run_at plate position, advice_at plate position)
 
 -- "begins only by the start job, which wants an accepted plate": by the plate's first fault, 14
 unfoldable pub started_verdict : List ℕ → ℕ → Result ⊤ FoundFault → Result (Run × Advice) Refusal

@@ -5,14 +5,15 @@
 ghost use Rattle.std.specs.Prelude.{◌≡◌, List, ℕ, ◌≤◌, ◌<◌};
 ghost use Rattle.rows.specs.Rows.{Ascending, ChartRows};
 ghost use Rattle.plate.specs.Formed.{form_of};
-ghost use Rattle.run.specs.Running.{AcceptedReport, CheckedReport, RowsReport, RowsStart, advice_at, begun_at, moved, no_run, off_chart, reported, standing, started, unmoved};
+ghost use Rattle.run.specs.Running.{AcceptedReport, CheckedReport, advice_at, begun_at, moved, no_run, off_chart, reported, standing, started, unmoved};
+ghost use Rattle.run.specs.OnRows.{ReportOf, StartOf};
 
 use checking::check_plate;
-use decode::load;
+use decode::Room;
 use moves::{Kind, move_kind};
 use plate::{LINE, examine_plate, number_at};
 use refusal::Refusal;
-use rows::Chart;
+use rows::Rows;
 
 // The position that the machine stands at, the disturbances seen, the value at the start, and the value at the position, 65,535 for
 // "ever".
@@ -51,47 +52,19 @@ impl Run {
     pub fn start(text: &[u8], plate: &[u8], position: usize) -> Result<(Run, Advice), Refusal>
         ensures { result ≡ started text.now plate.now position }
     {
-        let mut owners = [0u8; Chart::POSITIONS];
-        let mut marks = [0u8; Chart::POSITIONS];
-        let mut costs = [0u8; Chart::MOVES];
-        let mut froms = [0u16; Chart::MOVES];
-        let mut tos = [0u16; Chart::MOVES];
-        let chart = load(
-            text,
-            &mut owners,
-            &mut marks,
-            &mut costs,
-            &mut froms,
-            &mut tos,
-        )?;
-        let n = chart.positions;
-        let m = chart.moves;
-        start_rows(n, m, &owners, &marks, &costs, &froms, &tos, plate, position)
+        let mut room = Room::new();
+        let rows = room.load(text)?;
+        start_rows(&rows, plate, position)
     }
 
     // The run after the machine went to a position, or the refusal with the run as it was.
     pub fn report(self, text: &[u8], plate: &[u8], to: usize) -> Reported
         ensures { result ≡ reported self text.now plate.now to }
     {
-        let mut owners = [0u8; Chart::POSITIONS];
-        let mut marks = [0u8; Chart::POSITIONS];
-        let mut costs = [0u8; Chart::MOVES];
-        let mut froms = [0u16; Chart::MOVES];
-        let mut tos = [0u16; Chart::MOVES];
-        match load(
-            text,
-            &mut owners,
-            &mut marks,
-            &mut costs,
-            &mut froms,
-            &mut tos,
-        ) {
+        let mut room = Room::new();
+        match room.load(text) {
             Err(r) => self.unmoved(Refusal::Chart(r)),
-            Ok(chart) => {
-                let n = chart.positions;
-                let m = chart.moves;
-                report_rows(self, n, m, &owners, &marks, &costs, &froms, &tos, plate, to)
-            }
+            Ok(rows) => report_rows(self, &rows, plate, to),
         }
     }
 
@@ -181,24 +154,15 @@ impl Run {
 }
 
 // The answer to a start, from a chart's rows. 13 stands between 11 and 14: where the position is on the chart, the answer is Checking's.
-fn start_rows(
-    n: usize,
-    m: usize,
-    owners: &[u8],
-    marks: &[u8],
-    costs: &[u8],
-    froms: &[u16],
-    tos: &[u16],
-    plate: &[u8],
-    position: usize,
-) -> Result<(Run, Advice), Refusal>
-    requires { ChartRows n m owners.now marks.now costs.now froms.now tos.now × Ascending m froms.now }
-    ensures { RowsStart n m owners.now marks.now costs.now froms.now tos.now plate.now position result }
+fn start_rows(rows: &Rows, plate: &[u8], position: usize) -> Result<(Run, Advice), Refusal>
+    requires { Ascending rows.now.moves rows.now.froms.now }
+    ensures { StartOf rows.now plate.now position result }
 {
+    let n = rows.positions;
     if n <= position {
         return Err(off_chart(n, plate));
     }
-    check_plate(n, m, owners, marks, costs, froms, tos, plate)?;
+    check_plate(rows, plate)?;
     Ok(begin(n, plate, position))
 }
 
@@ -229,30 +193,30 @@ fn begin(n: usize, plate: &[u8], position: usize) -> (Run, Advice)
 }
 
 // The answer to a report, from a chart's rows: where both positions are on the chart, Checking's, and on an accepted plate the move's.
-fn report_rows(
-    run: Run,
-    n: usize,
-    m: usize,
-    owners: &[u8],
-    marks: &[u8],
-    costs: &[u8],
-    froms: &[u16],
-    tos: &[u16],
-    plate: &[u8],
-    to: usize,
-) -> Reported
-    requires { ChartRows n m owners.now marks.now costs.now froms.now tos.now × Ascending m froms.now }
-    ensures { RowsReport n m owners.now marks.now costs.now froms.now tos.now run plate.now to result }
+fn report_rows(run: Run, rows: &Rows, plate: &[u8], to: usize) -> Reported
+    requires { Ascending rows.now.moves rows.now.froms.now }
+    ensures { ReportOf rows.now run plate.now to result }
 {
+    let n = rows.positions;
     if n <= run.position {
         return run.unmoved(off_chart(n, plate));
     }
     if n <= to {
         return run.unmoved(off_chart(n, plate));
     }
-    match check_plate(n, m, owners, marks, costs, froms, tos, plate) {
+    match check_plate(rows, plate) {
         Err(r) => run.unmoved(r),
-        Ok(()) => report_accepted(run, n, m, owners, costs, froms, tos, plate, to),
+        Ok(()) => report_accepted(
+            run,
+            n,
+            rows.moves,
+            rows.owners,
+            rows.costs,
+            rows.froms,
+            rows.tos,
+            plate,
+            to,
+        ),
     }
 }
 

@@ -2,3 +2,4 @@ pub mod Solving
 pub mod SettleLaws
 pub mod SolveLaws
 pub mod OneSolution
+pub mod OnRows

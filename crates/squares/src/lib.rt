@@ -66,6 +66,7 @@ pub fn owners_of(t: usize, digits: [usize; 3]) -> [u8; 3]
     requires { (2 ≤ t) × (t ≤ 8) }
     ensures { RowIs result 3 (λ v. bit (lane_in t (get_or digits v 0))) }
 {
+    // Written out: `digits.map(..)` goes through an iterator here, for three places.
     [
         lane_in(t, digits[0]),
         lane_in(t, digits[1]),

@@ -3,3 +3,4 @@ pub mod ValuedMeans
 pub mod ValuingLaws
 pub mod Columns
 pub mod ValuedMeansHold
+pub mod OnRows

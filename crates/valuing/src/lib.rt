@@ -2,16 +2,16 @@
 #![tactic(auto)]
 
 ghost use Rattle.std.specs.Prelude.{◌<◌, ◌≤◌, length};
-ghost use Rattle.rows.specs.Rows.{ChartRows};
-ghost use Rattle.solver.specs.Solving.{Solved};
-ghost use Rattle.valuing.specs.Valuing.{RowsValued, ValuedIs};
+ghost use Rattle.solver.specs.OnRows.{SolvedOf};
+ghost use Rattle.valuing.specs.OnRows.{ValuedOf};
+ghost use Rattle.valuing.specs.Valuing.{ValuedIs};
 
 use choice::choose;
-use decode::load;
+use decode::Room;
 use filed::solve_filed;
 use first_line::count_first_line;
 use refusal::Refusal;
-use rows::{Chart, FirstLine};
+use rows::{FirstLine, Rows};
 use solver::solve;
 
 // Values a chart into three lent rows, and answers the count of rounds, or a refusal: the chart's, or 10 where a row is shorter than the count
@@ -49,21 +49,9 @@ fn value_by(
 ) -> Result<u16, Refusal>
     ensures { ValuedIs text.now values.old values.new choices.old choices.new steps.old steps.new result }
 {
-    let mut owners = [0u8; Chart::POSITIONS];
-    let mut marks = [0u8; Chart::POSITIONS];
-    let mut costs = [0u8; Chart::MOVES];
-    let mut froms = [0u16; Chart::MOVES];
-    let mut tos = [0u16; Chart::MOVES];
-    let chart = load(
-        text,
-        &mut owners,
-        &mut marks,
-        &mut costs,
-        &mut froms,
-        &mut tos,
-    )?;
-    let n = chart.positions;
-    let m = chart.moves;
+    let mut room = Room::new();
+    let rows = room.load(text)?;
+    let n = rows.positions;
     if values.len() < n {
         return Err(Refusal::Short);
     }
@@ -73,54 +61,45 @@ fn value_by(
     if steps.len() < n {
         return Err(Refusal::Short);
     }
-    let s = value_rows(
-        plain, n, m, &owners, &marks, &costs, &froms, &tos, values, choices, steps,
-    );
+    let s = value_rows(plain, &rows, values, choices, steps);
     Ok(s.rounds)
 }
 
-// Values decoded rows, by the plain solver or the filed one, and counts the first line's numbers. The rows hold a chart, as those that
-// `load` fills do, and there is room for n numbers.
+// Values decoded rows, by the plain solver or the filed one, and counts the first line's numbers. There is room for a number of each
+// position.
 pub fn value_rows(
     plain: bool,
-    n: usize,
-    m: usize,
-    owners: &[u8],
-    marks: &[u8],
-    costs: &[u8],
-    froms: &[u16],
-    tos: &[u16],
+    rows: &Rows,
     values: &mut [u16],
     choices: &mut [u16],
     steps: &mut [u16],
 ) -> FirstLine
-    requires { ChartRows n m owners.now marks.now costs.now froms.now tos.now × (n ≤ length values.old) × (n ≤ length choices.old) × (n ≤ length steps.old) }
-    ensures { RowsValued n m owners.now marks.now costs.now froms.now tos.now values.old values.new choices.old choices.new steps.old steps.new result }
+    requires { (rows.now.positions ≤ length values.old) × (rows.now.positions ≤ length choices.old) × (rows.now.positions ≤ length steps.old) }
+    ensures { ValuedOf rows.now values.old values.new choices.old choices.new steps.old steps.new result }
 {
-    solve_by(plain, n, m, owners, marks, costs, froms, tos, values, steps);
-    choose(n, m, owners, costs, froms, tos, values, choices);
+    let n = rows.positions;
+    solve_by(plain, rows, values, steps);
+    choose(
+        n,
+        rows.moves,
+        rows.owners,
+        rows.costs,
+        rows.froms,
+        rows.tos,
+        values,
+        choices,
+    );
     count_first_line(n, values, steps)
 }
 
 // Values and steps by the solver that is asked for. Both promise the same rows.
-fn solve_by(
-    plain: bool,
-    n: usize,
-    m: usize,
-    owners: &[u8],
-    marks: &[u8],
-    costs: &[u8],
-    froms: &[u16],
-    tos: &[u16],
-    values: &mut [u16],
-    steps: &mut [u16],
-)
-    requires { ChartRows n m owners.now marks.now costs.now froms.now tos.now × (n ≤ length values.old) × (n ≤ length steps.old) }
-    ensures { Solved n m owners.now marks.now costs.now froms.now tos.now values.old steps.old values.new steps.new }
+fn solve_by(plain: bool, rows: &Rows, values: &mut [u16], steps: &mut [u16])
+    requires { (rows.now.positions ≤ length values.old) × (rows.now.positions ≤ length steps.old) }
+    ensures { SolvedOf rows.now values.old steps.old values.new steps.new }
 {
     if plain {
-        solve(n, m, owners, marks, costs, froms, tos, values, steps);
+        solve(rows, values, steps);
     } else {
-        solve_filed(n, m, owners, marks, costs, froms, tos, values, steps);
+        solve_filed(rows, values, steps);
     }
 }

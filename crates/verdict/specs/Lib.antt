@@ -2,6 +2,7 @@ pub mod Verdict
 pub mod Sheet
 pub mod Ranks
 pub mod RowsChecked
+pub mod OnRows
 pub mod VerdictLaws
 pub mod Walk
 pub mod Costs

@@ -1,7 +1,7 @@
 -- The walk over positions and their moves: what is known between two positions and between two moves of one, with a law
 -- for each turn. A position's moves lie together, so those among the first i are all of them once a move of a later
 -- position comes, or none is left.
-use Prim.Native.Nat.{ℕ, ◌+◌, ◌-◌, ◌≤◌, ◌<◌}
+use Prim.Native.Nat.{ℕ, ◌+◌, ◌≤◌, ◌<◌}
 use Rattle.std.proofs.Math.Decide.{ℕ_discrete}
 use Rattle.std.proofs.Common.{arith, subst, ◌∙◌, inl, inr, eq-eqb, ne_eqb}
 use Rattle.std.specs.Prelude.{◌≡◌, ◌⊎◌, Bool, true, ◌||◌, get_or}

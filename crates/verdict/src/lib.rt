@@ -1,20 +1,20 @@
 // Checking over rows: the first fault of a plate's rows, positions from 0 up and in each the conditions in order.
 #![tactic(auto)]
 
-ghost use Rattle.std.specs.Prelude.{◌≡◌, ◌≤◌, ◌<◌, length, get_or};
+ghost use Rattle.std.specs.Prelude.{◌≡◌, ◌≤◌, ◌<◌, length};
 ghost use Rattle.refusal.specs.declared.Refusal.TheVariants.{Fault};
-ghost use Rattle.rows.specs.Rows.{Ascending, ChartRows, Within};
+ghost use Rattle.rows.specs.Rows.{Ascending};
 ghost use Rattle.rows.specs.Numbers.{row_value};
 ghost use Rattle.first_line.specs.Counting.{PairsFit};
-ghost use Rattle.verdict.specs.Sheet.{Formed, Sized, line_of, row_fault, sheet};
-ghost use Rattle.verdict.specs.Ranks.{Ranked, RowsRanked, ranked_target};
+ghost use Rattle.verdict.specs.Sheet.{Formed, Sized, row_fault};
+ghost use Rattle.verdict.specs.Ranks.{Ranked, RowsRanked};
 ghost use Rattle.verdict.specs.Verdict.{first_fault, header_verdict};
-ghost use Rattle.verdict.specs.RowsChecked.{RowsChecked};
+ghost use Rattle.verdict.specs.OnRows.{CheckedOf, line_on, sheet_on, target_on};
 
 use conditions::{Line, Seen, Target, after_moves, before_moves, see};
 use first_line::count_first_line;
 use refusal::Refusal;
-use rows::{Chart, FirstLine};
+use rows::{Chart, FirstLine, Rows};
 
 // The position of a fault, past all positions for the first line's numbers, and the condition that fails there.
 #[derive(Clone, Copy, Debug, PartialEq, Eq)]
@@ -32,29 +32,22 @@ impl From<FoundFault> for Refusal {
     }
 }
 
-// The first fault of a plate's rows and its first line's numbers. The rows hold a chart, as those that `load` fills do, with the moves
-// by their positions; those of the plate have n numbers and are of its form, values and steps 65,535 or below 512.
+// The first fault of a plate's rows and its first line's numbers. The chart's moves lie by their positions, as those that are loaded
+// do; the plate's rows have a number of each position and are of its form, values and steps 65,535 or below 512.
 pub fn check_rows(
-    n: usize,
-    m: usize,
-    owners: &[u8],
-    marks: &[u8],
-    costs: &[u8],
-    froms: &[u16],
-    tos: &[u16],
+    rows: &Rows,
     values: &[u16],
     choices: &[u16],
     steps: &[u16],
     header: FirstLine,
 ) -> Result<(), FoundFault>
-    requires { ChartRows n m owners.now marks.now costs.now froms.now tos.now × Ascending m froms.now × Formed n values.now steps.now × (n ≤ length values.now) × (n ≤ length choices.now) × (n ≤ length steps.now) }
-    ensures { RowsChecked n m (sheet owners.now marks.now costs.now froms.now tos.now values.now choices.now steps.now) header result }
+    requires { Ascending rows.now.moves rows.now.froms.now × Formed rows.now.positions values.now steps.now × (rows.now.positions ≤ length values.now) × (rows.now.positions ≤ length choices.now) × (rows.now.positions ≤ length steps.now) }
+    ensures { CheckedOf rows.now values.now choices.now steps.now header result }
 {
+    let n = rows.positions;
     let mut ranks = [0u32; Chart::POSITIONS];
     rank_rows(n, values, steps, &mut ranks);
-    first_fault(
-        n, m, owners, marks, costs, froms, tos, values, choices, steps, &ranks,
-    )?;
+    first_fault(rows, values, choices, steps, &ranks)?;
     header_fault(n, values, steps, header)
 }
 
@@ -83,20 +76,13 @@ fn header_fault(
 }
 
 // The position v.
-fn line_at(
-    v: usize,
-    owners: &[u8],
-    marks: &[u8],
-    values: &[u16],
-    choices: &[u16],
-    steps: &[u16],
-) -> Line
-    requires { (v < length owners.now) × (v < length marks.now) × (v < length values.now) × (v < length choices.now) × (v < length steps.now) }
-    ensures { result ≡ line_of owners.now marks.now values.now choices.now steps.now v }
+fn line_at(v: usize, rows: &Rows, values: &[u16], choices: &[u16], steps: &[u16]) -> Line
+    requires { (v < rows.now.positions) × (v < length values.now) × (v < length choices.now) × (v < length steps.now) }
+    ensures { result ≡ line_on rows.now values.now choices.now steps.now v }
 {
     Line {
-        owner: owners[v],
-        mark: marks[v],
+        owner: rows.owners[v],
+        mark: rows.marks[v],
         value: values[v],
         choice: choices[v],
         step: steps[v],
@@ -114,14 +100,14 @@ fn rank_rows(n: usize, values: &[u16], steps: &[u16], ranks: &mut [u32])
 }
 
 // The i-th move.
-fn target_at(i: usize, costs: &[u8], tos: &[u16], ranks: &[u32]) -> Target
-    requires { (i < length costs.now) × (i < length tos.now) × (get_or tos.now i 0 < length ranks.now) }
-    ensures { result ≡ ranked_target costs.now tos.now ranks.now i }
+fn target_at(i: usize, rows: &Rows, ranks: &[u32]) -> Target
+    requires { (i < rows.now.moves) × (rows.now.positions ≤ length ranks.now) }
+    ensures { result ≡ target_on rows.now ranks.now i }
 {
-    let to = tos[i];
+    let to = rows.tos[i];
     let rank = ranks[to as usize];
     Target {
-        cost: costs[i],
+        cost: rows.costs[i],
         to,
         value: (rank / 65536) as u16,
         step: (rank % 65536) as u16,
@@ -131,41 +117,36 @@ fn target_at(i: usize, costs: &[u8], tos: &[u16], ranks: &[u32]) -> Target
 // The first of conditions 1 to 5 that fails. A position's moves lie together, so one walk over the moves serves all. At L
 // condition 3 is settled before the moves, so a breach of 4 is the answer at once; at O all moves are seen before 4.
 fn first_fault(
-    n: usize,
-    m: usize,
-    owners: &[u8],
-    marks: &[u8],
-    costs: &[u8],
-    froms: &[u16],
-    tos: &[u16],
+    rows: &Rows,
     values: &[u16],
     choices: &[u16],
     steps: &[u16],
     ranks: &[u32],
 ) -> Result<(), FoundFault>
-    requires { Within n m costs.now froms.now tos.now × Ascending m froms.now × Sized n owners.now marks.now values.now choices.now steps.now × Ranked n values.now steps.now ranks.now }
-    ensures { result ≡ first_fault (row_fault m (sheet owners.now marks.now costs.now froms.now tos.now values.now choices.now steps.now)) (Ok tt) n }
+    requires { Ascending rows.now.moves rows.now.froms.now × Sized rows.now.positions rows.now.owners.now rows.now.marks.now values.now choices.now steps.now × Ranked rows.now.positions values.now steps.now ranks.now }
+    ensures { result ≡ first_fault (row_fault rows.now.moves (sheet_on rows.now values.now choices.now steps.now)) (Ok tt) rows.now.positions }
 {
+    let n = rows.positions;
+    let m = rows.moves;
     let mut v: usize = 0;
     let mut i: usize = 0;
     'positions: loop {
         if n <= v {
             break 'positions Ok(());
         }
-        let line = line_at(v, owners, marks, values, choices, steps);
-        let early = before_moves(line);
-        if early != 0 {
+        let line = line_at(v, rows, values, choices, steps);
+        if let Some(condition) = before_moves(line) {
             break 'positions Err(FoundFault {
                 position: v,
-                condition: early,
+                condition,
             });
         }
         let mut seen = Seen::none();
         while i < m {
-            if froms[i] as usize != v {
+            if rows.froms[i] as usize != v {
                 break;
             }
-            seen = see(seen, line, target_at(i, costs, tos, ranks));
+            seen = see(seen, line, target_at(i, rows, ranks));
             if (line.owner != 0) & seen.low {
                 break 'positions Err(FoundFault {
                     position: v,
@@ -174,11 +155,10 @@ fn first_fault(
             }
             i += 1;
         }
-        let late = after_moves(line, seen);
-        if late != 0 {
+        if let Some(condition) = after_moves(line, seen) {
             break 'positions Err(FoundFault {
                 position: v,
-                condition: late,
+                condition,
             });
         }
         v += 1;

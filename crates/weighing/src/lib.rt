@@ -3,105 +3,71 @@
 
 ghost use Rattle.std.specs.Prelude.{◌≤◌, length};
 ghost use Rattle.game.specs.Play.{Legal};
-ghost use Rattle.game.specs.Arena.{Arena};
+ghost use Rattle.rows.specs.Holding.{arena};
 ghost use Rattle.rows.specs.Numbers.{row_value};
-ghost use Rattle.rows.specs.Rows.{ChartRows, RowsOf};
-ghost use Rattle.weighing.specs.Weighing.{LegalWeighed, RestrictedSolved, RowsWeighed, WeighedIs};
+ghost use Rattle.weighing.specs.OnRows.{CopiedOf, LegalWeighedOf, RestrictedSolvedOf, WeighedOf};
+ghost use Rattle.weighing.specs.Weighing.{WeighedIs};
 
-use decode::load;
+use decode::Room;
 use filed::{FEW, solve_filed};
 use refusal::Refusal;
 use restriction::{all_legal, flag_chosen, restrict};
-use rows::Chart;
+use rows::{Chart, Rows};
 
 // Weighs the choices into a lent row; or a refusal: the chart's, 10 where a row is shorter than the count of positions, or 12 where a choice
 // is not legal. What lies past the last position's number stays, and on a refusal everything does.
 pub fn weigh_chart(text: &[u8], choices: &[u16], worths: &mut [u16]) -> Result<(), Refusal>
     ensures { WeighedIs text.now choices.now worths.old worths.new result }
 {
-    let mut owners = [0u8; Chart::POSITIONS];
-    let mut marks = [0u8; Chart::POSITIONS];
-    let mut costs = [0u8; Chart::MOVES];
-    let mut froms = [0u16; Chart::MOVES];
-    let mut tos = [0u16; Chart::MOVES];
-    let chart = load(
-        text,
-        &mut owners,
-        &mut marks,
-        &mut costs,
-        &mut froms,
-        &mut tos,
-    )?;
-    let n = chart.positions;
-    let m = chart.moves;
+    let mut room = Room::new();
+    let rows = room.load(text)?;
+    let n = rows.positions;
     if choices.len() < n {
         return Err(Refusal::Short);
     }
     if worths.len() < n {
         return Err(Refusal::Short);
     }
-    if weigh_rows(n, m, &owners, &marks, &costs, &froms, &tos, choices, worths) {
+    if weigh_rows(&rows, choices, worths) {
         return Ok(());
     }
     Err(Refusal::Choice)
 }
 
-// Weighs decoded rows by the solver, over the moves that stay; or answers that a choice is not legal. The rows hold a
-// chart, and there is room for n worths.
-pub fn weigh_rows(
-    n: usize,
-    m: usize,
-    owners: &[u8],
-    marks: &[u8],
-    costs: &[u8],
-    froms: &[u16],
-    tos: &[u16],
-    choices: &[u16],
-    worths: &mut [u16],
-) -> bool
-    requires { ChartRows n m owners.now marks.now costs.now froms.now tos.now × (n ≤ length choices.now) × (n ≤ length worths.old) }
-    ensures { RowsWeighed n m owners.now marks.now costs.now froms.now tos.now choices.now worths.old worths.new result }
+// Weighs decoded rows by the solver, over the moves that stay; or answers that a choice is not legal. There is a choice of each position,
+// and room for a worth of each.
+pub fn weigh_rows(rows: &Rows, choices: &[u16], worths: &mut [u16]) -> bool
+    requires { (rows.now.positions ≤ length choices.now) × (rows.now.positions ≤ length worths.old) }
+    ensures { WeighedOf rows.now choices.now worths.old worths.new result }
 {
+    let n = rows.positions;
     let mut flags = [0u8; Chart::POSITIONS];
-    flag_chosen(n, m, costs, froms, tos, choices, &mut flags);
-    if !all_legal(n, owners, choices, &flags) {
+    flag_chosen(
+        n, rows.moves, rows.costs, rows.froms, rows.tos, choices, &mut flags,
+    );
+    if !all_legal(n, rows.owners, choices, &flags) {
         return false;
     }
-    if m <= FEW {
-        weigh_up_to::<FEW>(n, m, owners, marks, costs, froms, tos, choices, worths);
+    if rows.moves <= FEW {
+        weigh_up_to::<FEW>(rows, choices, worths);
     } else {
-        weigh_up_to::<{ Chart::MOVES }>(n, m, owners, marks, costs, froms, tos, choices, worths);
+        weigh_up_to::<{ Chart::MOVES }>(rows, choices, worths);
     }
     true
 }
 
 // Weighs legal choices, with rows for the moves that stay that have room for N of them.
-fn weigh_up_to<const N: usize>(
-    n: usize,
-    m: usize,
-    owners: &[u8],
-    marks: &[u8],
-    costs: &[u8],
-    froms: &[u16],
-    tos: &[u16],
-    choices: &[u16],
-    worths: &mut [u16],
-)
-    requires n_in_bounds { ((a : Arena) × (RowsOf a n m owners.now marks.now costs.now froms.now tos.now × Legal a (row_value choices.now))) × (n ≤ length choices.now) × (n ≤ length worths.old) }
-    requires m_bound { (m ≤ N) × (N ≤ 4096) }
-    ensures { LegalWeighed n m owners.now marks.now costs.now froms.now tos.now choices.now worths.old worths.new }
+fn weigh_up_to<const N: usize>(rows: &Rows, choices: &[u16], worths: &mut [u16])
+    requires legal { Legal (arena rows.now) (row_value choices.now) }
+    requires positions_fit { (rows.now.positions ≤ length choices.now) × (rows.now.positions ≤ length worths.old) }
+    requires moves_fit { (rows.now.moves ≤ N) × (N ≤ 4096) }
+    ensures { LegalWeighedOf rows.now choices.now worths.old worths.new }
 {
     let mut costskept = [0u8; N];
     let mut fromskept = [0u16; N];
     let mut toskept = [0u16; N];
     solve_restricted(
-        n,
-        m,
-        owners,
-        marks,
-        costs,
-        froms,
-        tos,
+        rows,
         choices,
         &mut costskept,
         &mut fromskept,
@@ -111,31 +77,61 @@ fn weigh_up_to<const N: usize>(
 }
 
 // Copies the moves that stay when the controller makes these choices, which are legal, and solves them: the worths. Answers how many
-// moves stay. There is room for m of them and for n worths.
+// moves stay. There is room for all moves, and for a worth of each position.
 pub fn solve_restricted(
-    n: usize,
-    m: usize,
-    owners: &[u8],
-    marks: &[u8],
-    costs: &[u8],
-    froms: &[u16],
-    tos: &[u16],
+    rows: &Rows,
     choices: &[u16],
     costskept: &mut [u8],
     fromskept: &mut [u16],
     toskept: &mut [u16],
     worths: &mut [u16],
 ) -> usize
-    requires n_in_bounds { ((a : Arena) × (RowsOf a n m owners.now marks.now costs.now froms.now tos.now × Legal a (row_value choices.now))) × (n ≤ length choices.now) × (n ≤ length worths.old) }
-    requires m_in_bounds { (m ≤ length costskept.old) × (m ≤ length fromskept.old) × (m ≤ length toskept.old) }
-    ensures { RestrictedSolved n m owners.now marks.now costs.now froms.now tos.now choices.now worths.old result costskept.new fromskept.new toskept.new worths.new }
+    requires legal { Legal (arena rows.now) (row_value choices.now) }
+    requires positions_fit { (rows.now.positions ≤ length choices.now) × (rows.now.positions ≤ length worths.old) }
+    requires moves_fit { (rows.now.moves ≤ length costskept.old) × (rows.now.moves ≤ length fromskept.old) × (rows.now.moves ≤ length toskept.old) }
+    ensures { RestrictedSolvedOf rows.now choices.now worths.old result costskept.new fromskept.new toskept.new worths.new }
+{
+    let count = restrict(
+        rows.positions,
+        rows.moves,
+        rows.owners,
+        rows.costs,
+        rows.froms,
+        rows.tos,
+        choices,
+        costskept,
+        fromskept,
+        toskept,
+    );
+    solve_kept(rows, choices, count, costskept, fromskept, toskept, worths);
+    count
+}
+
+// Solves the moves that stay, which with the positions are the restricted arena's rows: the worths.
+fn solve_kept(
+    rows: &Rows,
+    choices: &[u16],
+    moves: usize,
+    costs: &[u8],
+    froms: &[u16],
+    tos: &[u16],
+    worths: &mut [u16],
+)
+    requires legal { Legal (arena rows.now) (row_value choices.now) }
+    requires copied { CopiedOf rows.now choices.now moves costs.now froms.now tos.now }
+    requires positions_fit { rows.now.positions ≤ length worths.old }
+    requires moves_fit { (moves ≤ length costs.now) × (moves ≤ length froms.now) × (moves ≤ length tos.now) }
+    ensures { RestrictedSolvedOf rows.now choices.now worths.old moves costs.now froms.now tos.now worths.new }
 {
     let mut steps = [0u16; Chart::POSITIONS];
-    let count = restrict(
-        n, m, owners, costs, froms, tos, choices, costskept, fromskept, toskept,
-    );
-    solve_filed(
-        n, count, owners, marks, costskept, fromskept, toskept, worths, &mut steps,
-    );
-    count
+    let kept = Rows {
+        positions: rows.positions,
+        moves,
+        owners: rows.owners,
+        marks: rows.marks,
+        costs,
+        froms,
+        tos,
+    };
+    solve_filed(&kept, worths, &mut steps);
 }

@@ -8,10 +8,8 @@ pub check_rows-requires : goal.check_rows-requires
 check_rows-requires c =
     let pre = c.requires in
     let read = c.read_rows-header in
-    let few = pre.0.1.few-positions in
-    (pre.0, pre.1, rows-formed _ _ few pre.2 read.ensures, omega (arith, read.auto, few), omega (arith, read.auto, few), omega (arith, read.auto, few))
+    let few = c.args.rows.now.few.0 in
+    (pre.0, rows-formed _ _ few pre.1 read.ensures, omega (arith, read.auto, few), omega (arith, read.auto, few), omega (arith, read.auto, few))
 
 pub returns : goal.returns
-returns c =
-    let pre = c.requires in
-    formed-verdict _ _ pre.0.1.few-positions pre.2 c.read_rows-header.ensures c.check_rows.ensures
+returns c = formed-verdict _ _ c.args.rows.now.few.0 c.requires.1 c.read_rows-header.ensures c.check_rows.ensures

@@ -1,5 +1,5 @@
 -- `put_back` meets its contract. The loop's invariant: the records below the present lane are put back.
-use Rattle.std.proofs.Common.{◌≡◌, ◌≤◌, ◌-◌}
+use Rattle.std.proofs.Common.{◌≡◌, ◌≤◌}
 use Rattle.house.specs.Copies.{copied}
 use Rattle.house.proofs.put_back.Given as goal
 

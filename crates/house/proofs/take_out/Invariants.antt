@@ -1,5 +1,5 @@
 -- `take_out` meets its contract. The loop's invariant: the records below the present lane are copied into a row that began with no run in it.
-use Rattle.std.proofs.Common.{◌≡◌, ◌≤◌, ◌-◌}
+use Rattle.std.proofs.Common.{◌≡◌, ◌≤◌}
 use Rattle.house.specs.Copies.{copied, no_runs}
 use Rattle.house.proofs.take_out.Given as goal
 

@@ -2,7 +2,7 @@
 -- the arena's moves, and their index is the arena's.
 use Rattle.std.specs.Prelude.{Ok}
 use mathlib.Core.Path.{sym, ap, ◌∙◌}
-use Rattle.rows.specs.RowsLaws.{rows-within}
+use Rattle.rows.specs.Holding.{holds}
 use Rattle.indexing.specs.IndexingLaws.{within-three, too_many, at_rest, some-meant, is-small}
 use Rattle.indexing.proofs.index_rows.Goals as goal
 
@@ -13,15 +13,15 @@ pub returns-then-some_rest : goal.returns-then-some_rest
 returns-then-some_rest c = record { answer = λ a d. at_rest a _ _ _ _ _ _ _ d (sym c.some_rest.ensures ∙ c.if-some_rest.true) }
 
 pub square_of-meant-requires : goal.square_of-meant-requires
-square_of-meant-requires c = within-three c.if-n-gt3.false (rows-within c.requires.1)
+square_of-meant-requires c = within-three c.if-n-gt3.false c.args.rows.now.within
 
 pub square_of-disturbances-requires : goal.square_of-disturbances-requires
-square_of-disturbances-requires c = within-three c.if-n-gt3.false (rows-within c.requires.1)
+square_of-disturbances-requires c = within-three c.if-n-gt3.false c.args.rows.now.within
 
 pub index_of-requires : goal.index_of-requires
 index_of-requires c =
     let few = c.if-n-gt3.false in
-    let d = c.requires.1 in
+    let d = holds c.args.rows.now in
     (few, d.owners-row, d.marks-row, some-meant _ _ _ _ _ _ _ _ d few (sym c.some_rest.ensures ∙ c.if-some_rest.false) c.square_of-meant.result c.square_of-meant.ensures)
 
 pub returns : goal.returns

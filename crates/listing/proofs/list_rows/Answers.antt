@@ -1,20 +1,18 @@
 -- `list_rows` meets its contract: the picked lines are those of every arena that the rows hold, and there are at most 4,096 of them.
 use native.Mathlib.Omega.{arith}
 use borrow.Author.Tests.{le-leb, lt-leb}
-use Rattle.rows.specs.RowsLaws.{rows-within}
 use Rattle.good_moves.specs.PickingLaws.{picked-fewer}
 use Rattle.listing.specs.ListingLaws.{rows_short, rows-listed}
 use Rattle.listing.proofs.list_rows.Goals as goal
 
 pub pick_good-lines-requires : goal.pick_good-lines-requires
 pick_good-lines-requires c =
-    let rows = c.requires.1 in
-    let kept = c.solve_filed.auto in
-    (rows-within rows, rows.owners-row, omega (arith, rows.few-positions, kept), omega (arith, rows.few-moves), omega (arith, rows.few-moves))
+    let r = c.args.rows.now in
+    (r.within, r.room.0, omega (arith, r.few.0, c.solve_filed.auto), r.few.1, r.few.1)
 
 pub overflow_mul-lines : goal.overflow_mul-lines
 overflow_mul-lines c =
-    omega (arith, c.requires.1.few-moves, picked-fewer c.pick_good-lines.ensures)
+    omega (arith, c.args.rows.now.few.1, picked-fewer c.pick_good-lines.ensures)
 
 pub returns-then-sheet-lines : goal.returns-then-sheet-lines
 returns-then-sheet-lines c =
@@ -23,7 +21,7 @@ returns-then-sheet-lines c =
 pub write_lines-requires : goal.write_lines-requires
 write_lines-requires c =
     let fewer = picked-fewer c.pick_good-lines.ensures in
-    let few = c.requires.1.few-moves in
+    let few = c.args.rows.now.few.1 in
     let kept = c.pick_good-lines.auto in
     (omega (arith, fewer, few, kept), omega (arith, fewer, few, kept), c.if-sheet-lines.false)
 

@@ -1,5 +1,4 @@
 -- `advice_at` meets its contract: the line is within a plate of the form, and its entries fit 16 bits.
-use Prim.Native.Nat.{◌-◌}
 use native.Mathlib.Omega.{arith}
 use Rattle.plate.specs.Form.{column_at}
 use Rattle.plate.specs.Read.{value_in_plate, choice_in_plate}

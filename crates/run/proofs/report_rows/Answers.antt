@@ -1,4 +1,5 @@
 -- `report_rows` meets its contract: a position outside is 13 or 11, else Checking's refusal is handed on, and an accepted plate is gone into.
+use Rattle.rows.specs.Holding.{holds, holds-some}
 use Rattle.checking.specs.CheckingLaws.{accepted-form}
 use Rattle.run.proofs.RunningLaws.{accepted-report, own-outside, refused-report, to-outside}
 use Rattle.run.proofs.report_rows.Goals as goal
@@ -12,9 +13,9 @@ returns-then-n-to c =
 
 pub report_accepted-requires : goal.report_accepted-requires
 report_accepted-requires c =
-    let pre = c.requires in
-    let form = accepted-form _ pre.0.1 c.check_plate.ensures c.in-Ok.is in
-    ((_, pre.0), pre.1, form, c.if-n-run.false, c.if-n-to.false)
+    let rows = c.args.rows.now in
+    let form = accepted-form _ (holds rows) c.check_plate.ensures c.in-Ok.is in
+    ((_, holds-some rows), c.requires, form, c.if-n-run.false, c.if-n-to.false)
 
 pub returns-in-Err : goal.returns-in-Err
 returns-in-Err c =

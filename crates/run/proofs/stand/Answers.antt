@@ -1,5 +1,4 @@
 -- `stand` meets its contract: the value that the run holds is the advice's, which is the plate's.
-use Prim.Native.Nat.{◌-◌}
 use Rattle.run.specs.Running.{advice_at, standing}
 use Rattle.run.proofs.stand.Goals as goal
 

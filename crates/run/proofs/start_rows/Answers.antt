@@ -1,6 +1,7 @@
 -- `start_rows` meets its contract: a position outside is 13 or 11, else Checking's refusal is handed on, and on an accepted plate the run begins.
 use native.Mathlib.Omega.{arith}
 use mathlib.Core.Path.{refl}
+use Rattle.rows.specs.Holding.{holds}
 use Rattle.checking.specs.CheckingLaws.{accepted-form}
 use Rattle.run.proofs.RunningLaws.{start-inside, start_outside, started_checked}
 use Rattle.search.proofs.HandedOn.{handed-on}
@@ -11,8 +12,8 @@ returns-then-n-position c = rw c.off_chart.ensures (start_outside _ _ (omega (ar
 
 pub begin-requires : goal.begin-requires
 begin-requires c =
-    let pre = c.requires in
-    (pre.0.1.few-positions, accepted-form _ pre.0.1 c.check_plate.ensures c.in_ok-check_plate.was, omega (arith, c.if-n-position.false))
+    let rows = c.args.rows.now in
+    (rows.few.0, accepted-form _ (holds rows) c.check_plate.ensures c.in_ok-check_plate.was, omega (arith, c.if-n-position.false))
 
 pub returns-in_err-check_plate : goal.returns-in_err-check_plate
 unfolding started_checked

@@ -8,11 +8,11 @@ returns-then-count-eq0 c =
     let so_far = c.loop-s.invariant in
     let noted = c.flag_ready.ensures in
     let round = c.place-count.ensures in
-    settling-stops c.requires.2 so_far noted round c.if-count-eq0.true
+    settling-stops c.requires.0 so_far noted round c.if-count-eq0.true
 
 pub loop-s-preserved : goal.loop-s-preserved
 loop-s-preserved c =
     let so_far = c.loop-s.invariant in
     let noted = c.flag_ready.ensures in
     let round = c.place-count.ensures in
-    settling-next c.requires.2 so_far noted round
+    settling-next c.requires.0 so_far noted round

@@ -1,5 +1,4 @@
 -- `rank_rows` meets its contract: the invariant says that the positions below v have their ranks.
-use Prim.Native.Nat.{◌-◌}
 use native.Mathlib.Nat.{le_antisymm}
 use native.Mathlib.Omega.{arith}
 use mathlib.Core.Path.{refl}

@@ -1,5 +1,5 @@
 -- `rank_rows` meets its contract: the invariant says that the positions below v have their ranks.
-use Prim.Native.Nat.{◌-◌, ◌≤◌}
+use Prim.Native.Nat.{◌≤◌}
 use Rattle.verdict.specs.Ranks.{RowsRanked}
 use Rattle.verdict.proofs.rank_rows.Given as goal
 

@@ -8,6 +8,11 @@ use Rattle.walk.specs.Walked.{MovesStand}
 use Rattle.walk.specs.WalkLaws.{stopped, went_on, move-reads, rank_of, so-far-none, so-far-next, kinds-none, kinds-next, rows_next, kept_set}
 use Rattle.std.proofs.lemmas.Bool.{not_from_true}
 use Rattle.walk.proofs.walk_moves.Goals as goal
+use Rattle.walk.proofs.walk_moves.Goals.{After-cost_at-cost}
+
+-- what was read of a line stays within the tables
+inside : (c : After-cost_at-cost) → (c.number_at-from.result < c.args.n) × (c.number_at-to.result < c.args.n) × (c.cost_at-cost.result ≤ 1) × (c.args.n ≤ 512)
+inside c = let tables = c.requires.tables in (c.number_at-from.ensures _ tables.number, c.number_at-to.ensures _ tables.number, c.cost_at-cost.ensures, tables.few)
 
 pub loop-i-init : goal.loop-i-init
 loop-i-init c =
@@ -15,58 +20,42 @@ loop-i-init c =
 
 pub overflow_mul-kind : goal.overflow_mul-kind
 overflow_mul-kind c =
-    let inside : let n = c.args.n in (c.number_at-from.result < n) × (c.number_at-to.result < n) × (c.cost_at-cost.result ≤ 1) × (n ≤ 512) = let tables = c.requires.tables in
-    (c.number_at-from.ensures _ tables.number, c.number_at-to.ensures _ tables.number, c.cost_at-cost.ensures, tables.few) in
-    let l = inside in
+    let l = inside (goal.at.overflow_mul-kind c).After-cost_at-cost in
     omega arith
 
 pub overflow_add-kind : goal.overflow_add-kind
 overflow_add-kind c =
-    let inside : let n = c.args.n in (c.number_at-from.result < n) × (c.number_at-to.result < n) × (c.cost_at-cost.result ≤ 1) × (n ≤ 512) = let tables = c.requires.tables in
-    (c.number_at-from.ensures _ tables.number, c.number_at-to.ensures _ tables.number, c.cost_at-cost.ensures, tables.few) in
-    let l = inside in
+    let l = inside (goal.at.overflow_add-kind c).After-cost_at-cost in
     omega arith
 
 pub offset_bounds-openings-kind : goal.offset_bounds-openings-kind
 offset_bounds-openings-kind c =
-    let inside : let n = c.args.n in (c.number_at-from.result < n) × (c.number_at-to.result < n) × (c.cost_at-cost.result ≤ 1) × (n ≤ 512) = let tables = c.requires.tables in
-    (c.number_at-from.ensures _ tables.number, c.number_at-to.ensures _ tables.number, c.cost_at-cost.ensures, tables.few) in
-    let l = inside in
+    let l = inside (goal.at.offset_bounds-openings-kind c).After-cost_at-cost in
     omega arith
 
 pub bounds-openings-kind : goal.bounds-openings-kind
 bounds-openings-kind c =
-    let inside : let n = c.args.n in (c.number_at-from.result < n) × (c.number_at-to.result < n) × (c.cost_at-cost.result ≤ 1) × (n ≤ 512) = let tables = c.requires.tables in
-    (c.number_at-from.ensures _ tables.number, c.number_at-to.ensures _ tables.number, c.cost_at-cost.ensures, tables.few) in
-    let l = inside in
+    let l = inside (goal.at.bounds-openings-kind c).After-cost_at-cost in
     omega arith
 
 pub offset_bounds-middles-from : goal.offset_bounds-middles-from
 offset_bounds-middles-from c =
-    let inside : let n = c.args.n in (c.number_at-from.result < n) × (c.number_at-to.result < n) × (c.cost_at-cost.result ≤ 1) × (n ≤ 512) = let tables = c.requires.tables in
-    (c.number_at-from.ensures _ tables.number, c.number_at-to.ensures _ tables.number, c.cost_at-cost.ensures, tables.few) in
-    let l = inside in
+    let l = inside (goal.at.offset_bounds-middles-from c).After-cost_at-cost in
     omega arith
 
 pub bounds-middles-from : goal.bounds-middles-from
 bounds-middles-from c =
-    let inside : let n = c.args.n in (c.number_at-from.result < n) × (c.number_at-to.result < n) × (c.cost_at-cost.result ≤ 1) × (n ≤ 512) = let tables = c.requires.tables in
-    (c.number_at-from.ensures _ tables.number, c.number_at-to.ensures _ tables.number, c.cost_at-cost.ensures, tables.few) in
-    let l = inside in
+    let l = inside (goal.at.bounds-middles-from c).After-cost_at-cost in
     omega arith
 
 pub offset_bounds-closings-to : goal.offset_bounds-closings-to
 offset_bounds-closings-to c =
-    let inside : let n = c.args.n in (c.number_at-from.result < n) × (c.number_at-to.result < n) × (c.cost_at-cost.result ≤ 1) × (n ≤ 512) = let tables = c.requires.tables in
-    (c.number_at-from.ensures _ tables.number, c.number_at-to.ensures _ tables.number, c.cost_at-cost.ensures, tables.few) in
-    let l = inside in
+    let l = inside (goal.at.offset_bounds-closings-to c).After-cost_at-cost in
     omega arith
 
 pub bounds-closings-to : goal.bounds-closings-to
 bounds-closings-to c =
-    let inside : let n = c.args.n in (c.number_at-from.result < n) × (c.number_at-to.result < n) × (c.cost_at-cost.result ≤ 1) × (n ≤ 512) = let tables = c.requires.tables in
-    (c.number_at-from.ensures _ tables.number, c.number_at-to.ensures _ tables.number, c.cost_at-cost.ensures, tables.few) in
-    let l = inside in
+    let l = inside (goal.at.bounds-closings-to c).After-cost_at-cost in
     omega arith
 
 pub returns-then-not-line_is : goal.returns-then-not-line_is
@@ -82,16 +71,12 @@ returns-then-not-line_is c =
 
 pub overflow_mul-rank : goal.overflow_mul-rank
 overflow_mul-rank c =
-    let inside : let n = c.args.n in (c.number_at-from.result < n) × (c.number_at-to.result < n) × (c.cost_at-cost.result ≤ 1) × (n ≤ 512) = let tables = c.requires.tables in
-    (c.number_at-from.ensures _ tables.number, c.number_at-to.ensures _ tables.number, c.cost_at-cost.ensures, tables.few) in
-    let l = inside in
+    let l = inside (goal.at.overflow_mul-rank c).After-cost_at-cost in
     omega arith
 
 pub overflow_add-rank : goal.overflow_add-rank
 overflow_add-rank c =
-    let inside : let n = c.args.n in (c.number_at-from.result < n) × (c.number_at-to.result < n) × (c.cost_at-cost.result ≤ 1) × (n ≤ 512) = let tables = c.requires.tables in
-    (c.number_at-from.ensures _ tables.number, c.number_at-to.ensures _ tables.number, c.cost_at-cost.ensures, tables.few) in
-    let l = inside in
+    let l = inside (goal.at.overflow_add-rank c).After-cost_at-cost in
     omega arith
 
 pub returns-then-rank-lowest : goal.returns-then-rank-lowest
@@ -107,41 +92,31 @@ returns-then-rank-lowest c =
 
 pub overflow_cast-froms : goal.overflow_cast-froms
 overflow_cast-froms c =
-    let inside : let n = c.args.n in (c.number_at-from.result < n) × (c.number_at-to.result < n) × (c.cost_at-cost.result ≤ 1) × (n ≤ 512) = let tables = c.requires.tables in
-    (c.number_at-from.ensures _ tables.number, c.number_at-to.ensures _ tables.number, c.cost_at-cost.ensures, tables.few) in
-    let l = inside in
+    let l = inside (goal.at.overflow_cast-froms c).After-cost_at-cost in
     omega arith
 
 pub overflow_cast-tos : goal.overflow_cast-tos
 overflow_cast-tos c =
-    let inside : let n = c.args.n in (c.number_at-from.result < n) × (c.number_at-to.result < n) × (c.cost_at-cost.result ≤ 1) × (n ≤ 512) = let tables = c.requires.tables in
-    (c.number_at-from.ensures _ tables.number, c.number_at-to.ensures _ tables.number, c.cost_at-cost.ensures, tables.few) in
-    let l = inside in
+    let l = inside (goal.at.overflow_cast-tos c).After-cost_at-cost in
     omega arith
 
 pub bounds-kinds-kind : goal.bounds-kinds-kind
 bounds-kinds-kind c =
-    let inside : let n = c.args.n in (c.number_at-from.result < n) × (c.number_at-to.result < n) × (c.cost_at-cost.result ≤ 1) × (n ≤ 512) = let tables = c.requires.tables in
-    (c.number_at-from.ensures _ tables.number, c.number_at-to.ensures _ tables.number, c.cost_at-cost.ensures, tables.few) in
-    let l = inside in
+    let l = inside (goal.at.bounds-kinds-kind c).After-cost_at-cost in
     omega arith
 
 pub overflow_add-lowest : goal.overflow_add-lowest
 overflow_add-lowest c =
-    let inside : let n = c.args.n in (c.number_at-from.result < n) × (c.number_at-to.result < n) × (c.cost_at-cost.result ≤ 1) × (n ≤ 512) = let tables = c.requires.tables in
-    (c.number_at-from.ensures _ tables.number, c.number_at-to.ensures _ tables.number, c.cost_at-cost.ensures, tables.few) in
-    let l = inside in
+    let l = inside (goal.at.overflow_add-lowest c).After-cost_at-cost in
     omega arith
 
 pub loop-i-preserved : goal.loop-i-preserved
 unfolding rank_of
 loop-i-preserved c =
-    let inside : let n = c.args.n in (c.number_at-from.result < n) × (c.number_at-to.result < n) × (c.cost_at-cost.result ≤ 1) × (n ≤ 512) = let tables = c.requires.tables in
-    (c.number_at-from.ensures _ tables.number, c.number_at-to.ensures _ tables.number, c.cost_at-cost.ensures, tables.few) in
     let a = c.args in
     let inv = c.loop-i.invariant in
     let i = c.loop-i.i in
-    let l = inside in
+    let l = inside (goal.at.loop-i-preserved c).After-cost_at-cost in
     let text = a.text.now in
     let reads = move-reads text a.n (a.n + 1 + i) _ _ _ _ _ _ _ c.requires.tables l.0 l.1 l.2 (c.line_is.ensures (went_on _ (not_from_true _ c.if-not-line_is.false))) in (
       omega arith,

@@ -1,27 +1,21 @@
--- `solve_restricted` meets its contract: the copied moves are those of the restricted arena, which the solver solves.
+-- `solve_restricted` meets its contract: what is solved are the copied moves, which are no more than the moves.
 use native.Mathlib.Omega.{arith}
-use Rattle.rows.specs.RowsLaws.{rows-within}
 use Rattle.restriction.specs.RestrictionLaws.{copied-fewer}
-use Rattle.weighing.specs.WeighingLaws.{copied-rows, restricted-solved}
 use Rattle.weighing.proofs.solve_restricted.Goals as goal
 
 pub restrict-count-requires : goal.restrict-count-requires
 restrict-count-requires c =
-    let d = c.requires.n_in_bounds.0.1.0 in
-    record { within = (rows-within d, d.owners-row, c.requires.n_in_bounds.1); m_in_bounds = c.requires.m_in_bounds }
+    let r = c.args.rows.now in
+    record { within = (r.within, r.room.0, c.requires.positions_fit.0); m_in_bounds = c.requires.moves_fit }
 
-pub solve_filed-requires : goal.solve_filed-requires
-solve_filed-requires c =
-    let d = c.requires.n_in_bounds.0.1.0 in
-    let fewer = copied-fewer c.restrict-count.ensures in
-    let kept = c.restrict-count.auto in (
-      (_, copied-rows _ _ _ _ _ _ _ _ _ d _ _ _ _ c.restrict-count.ensures c.requires.n_in_bounds.0.1.1 (omega (arith, fewer, kept, c.requires.m_in_bounds)) (omega (arith, fewer, kept, c.requires.m_in_bounds)) (omega (arith, fewer, kept, c.requires.m_in_bounds))),
-      c.requires.n_in_bounds.2,
-      d.few-positions,
-    )
-
-pub returns : goal.returns
-returns c =
+pub solve_kept-requires : goal.solve_kept-requires
+solve_kept-requires c =
     let fewer = copied-fewer c.restrict-count.ensures in
     let kept = c.restrict-count.auto in
-    restricted-solved c.restrict-count.ensures (omega (arith, fewer, kept, c.requires.m_in_bounds)) (omega (arith, fewer, kept, c.requires.m_in_bounds)) (omega (arith, fewer, kept, c.requires.m_in_bounds)) c.solve_filed.ensures
+    let room = c.requires.moves_fit in
+    record {
+      legal = c.requires.legal;
+      copied = c.restrict-count.ensures;
+      positions_fit = c.requires.positions_fit.1;
+      moves_fit = (omega (arith, fewer, kept, room), omega (arith, fewer, kept, room), omega (arith, fewer, kept, room));
+    }

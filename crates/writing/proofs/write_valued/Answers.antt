@@ -1,5 +1,4 @@
 -- `write_valued` meets its contract: the rows are the arena's, and so is their plate.
-use Prim.Native.Nat.{◌-◌}
 use Rattle.writing.specs.WritingLaws.{plate-written}
 use Rattle.writing.proofs.write_valued.Goals as goal
 

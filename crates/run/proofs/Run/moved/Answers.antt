@@ -1,5 +1,4 @@
 -- `Run::moved` meets its contract: the fields are those of the definition.
-use Prim.Native.Nat.{◌-◌}
 use mathlib.Core.Path.{refl}
 use Rattle.run.specs.Running.{moved}
 use Rattle.run.proofs.Run.moved.Goals as goal
