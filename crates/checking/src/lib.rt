@@ -41,7 +41,8 @@ pub fn check_plate(rows: &Rows, plate: &[u8]) -> Result<(), Refusal>
     Ok(())
 }
 
-// The first fault of a plate of the form, for who has looked at the form already.
+// The first fault of a plate of the form, for who has looked at the form already. The chart's moves lie by their positions, as those that
+// are loaded do.
 pub fn check_formed(rows: &Rows, plate: &[u8]) -> Result<(), FoundFault>
     requires { Ascending rows.now.moves rows.now.froms.now × (form_of rows.now.positions plate.now ≡ Ok tt) }
     ensures { FormedOf rows.now plate.now result }

@@ -23,8 +23,11 @@ pub fn step(rt: &impl Print, texts: Texts, run: Run) -> io::Result<Run> {
 
 // The run that a report is of: the one left, after the turns that the step's fields ask for.
 fn turned(texts: Texts, run: Run, to: usize) -> Run {
+    if texts.words.len() < 16 {
+        return run;
+    }
     let back = number(texts.words, 6, usize::MAX);
-    let count = number(texts.words, 11, 0);
+    let count = number(texts.words, 11, usize::MAX);
     let mut after = run;
     for _ in 0..count {
         after = went(went(after, texts, to), texts, back);

@@ -50,5 +50,8 @@ fn put_word(word: u32, part: &mut [u8], at: usize)
     ensures { part.new ≡ sets part.old at (word_text word) }
 {
     part[at] = b' ';
-    part[at + 1..at + 5].copy_from_slice(&word.to_le_bytes());
+    part[at + 1] = (word % 256) as u8;
+    part[at + 2] = (word / 256 % 256) as u8;
+    part[at + 3] = (word / 65536 % 256) as u8;
+    part[at + 4] = (word / 16777216 % 256) as u8;
 }
